@@ -2,9 +2,26 @@
 #![tactic(auto)]
 
 pub mod answers;
+mod calls;
+pub mod channels;
+mod folder;
+pub mod memory_tray;
+mod outs;
 pub mod places;
+pub mod reading;
+pub mod sure_tray;
+#[cfg(test)]
+mod tests;
 pub mod texts;
+pub mod tray;
+pub mod writing;
 
 pub use answers::{Limit, PassEnd, Refusal, Refused};
+pub use channels::{Channel, Failed, WriteFault};
+pub use memory_tray::MemoryTray;
 pub use places::Place;
+pub use reading::{ReadEnd, read_all};
+pub use sure_tray::SureTray;
 pub use texts::{Bytes, Text};
+pub use tray::Tray;
+pub use writing::write_all;

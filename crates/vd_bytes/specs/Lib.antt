@@ -1,0 +1,5 @@
+pub mod Calls
+pub mod Folder
+pub mod MemoryTray
+pub mod Outs
+pub mod Trays

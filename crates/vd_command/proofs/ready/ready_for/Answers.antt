@@ -1,0 +1,15 @@
+use Rattle.std.proofs.Common.{◌≡◌, ◌≤◌, sym, subst, IfSome}
+use Rattle.std.proofs.lemmas.Result.{IfOk-weaker}
+use Rattle.vd_bytes.specs.Trays.{content_of}
+use Rattle.vd_command.specs.Endings.{due_in}
+use Rattle.vd_command.proofs.ReadyLemmas.{formed_by}
+use Rattle.vd_command.proofs.ready.ready_for.Goals as goal
+
+pub returns-in-Ok-clause-ready : goal.returns-in-Ok-clause-ready
+returns-in-Ok-clause-ready g c =
+    let same = sym c.deref.ensures.value in
+    let within = subst (λ n. n ≤ 8388608) (sym c.deref.ensures.len) c.in-Ok.ensures.within in
+    let content = subst (λ bs. IfSome (g.T.Tray.files c.args.tray.now) (λ files. bs ≡ content_of files c.args.file.now)) same c.in-Ok.ensures.content in
+    IfOk-weaker c.file_ready.result _ _
+    (λ ready answer. formed_by g.T.Tray.read_faults c.args.tray.now c.read_all.new.tray (g.T.Tray.files c.args.tray.now) c.args.file.now c.deref.result.now (due_in ready) within content answer)
+    c.file_ready.ensures

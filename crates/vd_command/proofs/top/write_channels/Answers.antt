@@ -1,0 +1,55 @@
+use Rattle.std.proofs.Common.{◌≡◌, sym, ap, ◌∙◌, subst}
+use Rattle.vd_bytes.specs.declared.channels.Channel.{Channel}
+use Rattle.vd_bytes.specs.declared.channels.Channel.TheVariants.{Design, Map, Console}
+use Rattle.vd_bytes.specs.Trays.{Appends, AppendsFront}
+use Rattle.vd_bytes.proofs.TrayLemmas.{Appends-same}
+use Rattle.vd_command.specs.Endings.{GotFronts, due_with}
+use Rattle.vd_command.proofs.EndingLemmas.{OnErr-always, fronts_first, fronts_second, fronts_third}
+use Rattle.vd_command.proofs.top.write_channels.Goals as goal
+use Rattle.vd_command.proofs.top.write_channels.Goals.{then-conversion+in_ok-write_all+in_ok-write_all-2, else-conversion}
+
+pub returns-in_err-write_all-clause-fronts : goal.returns-in_err-write_all-clause-fronts
+returns-in_err-write_all-clause-fronts g c =
+    let w = c.write_all.ensures.only_writes in
+    OnErr-always c.from_residual.result _
+    (fronts_first g.T.Tray.written c.args.tray.now c.write_all.new.tray c.args.design.now c.args.map.now c.args.console.now c.write_all.ensures.front (w.other_channels Map (λ e. cc)) (w.other_channels Console (λ e. cc)))
+
+pub returns-in_err-write_all-2-clause-fronts : goal.returns-in_err-write_all-2-clause-fronts
+returns-in_err-write_all-2-clause-fronts g c =
+    let written = g.T.Tray.written in
+    let old = c.args.tray.now in
+    let mid = c.write_all.new.tray in
+    let new = c.write_all-then-conversion.new.tray in
+    let v = c.write_all.ensures.only_writes in
+    let w = c.write_all-then-conversion.ensures.only_writes in
+    OnErr-always c.from_residual-in_err-write_all-2.result _
+    (fronts_second written old new c.args.design.now c.args.map.now c.args.console.now
+    (subst (λ x. Appends (written old Design) x c.args.design.now) (sym (w.other_channels Design (λ e. cc))) c.in_ok-write_all.ensures.appended)
+    (subst (λ x. AppendsFront x (written new Map) c.args.map.now) (v.other_channels Map (λ e. cc)) c.write_all-then-conversion.ensures.front)
+    (w.other_channels Console (λ e. cc) ∙ v.other_channels Console (λ e. cc)))
+
+pub returns-clause-fronts : goal.returns-clause-fronts
+returns-clause-fronts g c =
+    let written = g.T.Tray.written in
+    let old = c.args.tray.now in
+    let new = c.write_all-2.new.tray in
+    let last = c.write_all-2.ensures.only_writes in
+    OnErr-always c.write_all-2.result (GotFronts written old new (due_with 0 c.args.design.now c.args.map.now c.args.console.now))
+    (elim c.if-conversion.branch [
+      | then-conversion+in_ok-write_all+in_ok-write_all-2 w ↦
+          let first = w.write_all.ensures.only_writes in
+          let second = w.write_all-then-conversion.ensures.only_writes in
+          let mid : c.if-conversion.tray ≡ w.write_all-then-conversion.new.tray = w.tray-is in
+          fronts_third written old new c.args.design.now c.args.map.now c.args.console.now
+          (subst (λ x. Appends (written old Design) x c.args.design.now) (sym (last.other_channels Design (λ e. cc) ∙ ap (λ t. written t Design) mid ∙ second.other_channels Design (λ e. cc))) w.in_ok-write_all.ensures.appended)
+          (subst (λ x. Appends (written old Map) x c.args.map.now) (sym (last.other_channels Map (λ e. cc) ∙ ap (λ t. written t Map) mid))
+          (subst (λ x. Appends x (written w.write_all-then-conversion.new.tray Map) c.args.map.now) (first.other_channels Map (λ e. cc)) w.in_ok-write_all-2.ensures.appended))
+          (subst (λ x. AppendsFront x (written new Console) c.args.console.now) (ap (λ t. written t Console) mid ∙ second.other_channels Console (λ e. cc) ∙ first.other_channels Console (λ e. cc)) c.write_all-2.ensures.front)
+      | else-conversion w ↦
+          let quiet = c.requires.quiet w.if-conversion.false in
+          let still : (to : Channel) → (to ≡ Console → ⊥) → written new to ≡ written old to = λ to ne. last.other_channels to ne ∙ ap (λ t. written t to) w.tray-is in
+          fronts_third written old new c.args.design.now c.args.map.now c.args.console.now
+          (subst (Appends (written old Design) (written new Design)) (sym quiet.0) (Appends-same (written old Design) (written new Design) (still Design (λ e. cc))))
+          (subst (Appends (written old Map) (written new Map)) (sym quiet.1) (Appends-same (written old Map) (written new Map) (still Map (λ e. cc))))
+          (subst (λ x. AppendsFront x (written new Console) c.args.console.now) (ap (λ t. written t Console) w.tray-is) c.write_all-2.ensures.front)
+    ])

@@ -1,0 +1,104 @@
+//! The top call: words and files in, a status and bytes on three channels out.
+
+ghost use Rattle.std.specs.Prelude.{◌≡◌, ◌≢◌, ◌<◌, ◌≤◌, ◌⊎◌, ℕ, List, [], length, None, Some, IfOk, OnOk, OnErr, IfSome, IsFalse};
+ghost use Rattle.vd_bytes.specs.declared.channels.Channel.{Channel};
+ghost use Rattle.vd_bytes.specs.Trays.{Rose};
+ghost use Rattle.vd_command.specs.Words.{file_of, texts_of};
+ghost use Rattle.vd_command.specs.Outcomes.{Due, refused_words, read_fault, HasOneOutcome, IsFileOutcome, IsOutcome};
+ghost use Rattle.vd_command.specs.Endings.{GotAll, GotFronts, GotNothing, IsCompleted, IsDueOrFault, IsReady, due_in, due_with};
+
+use crate::console::REFUSED_WORDS;
+use crate::ready::ready_for;
+use crate::words::file_word;
+use std::alloc::Global;
+use vd_bytes::{Channel, Tray, WriteFault, write_all};
+
+/// Want of memory.
+const MEMORY: u8 = 5;
+
+/// Converts the file that the words name, and answers a status: 0 done, 1 a rule is broken, 2 the words aren't taken,
+/// 3 a fault in reading, 4 a fault in writing, 5 want of memory, 6 a limit is passed.
+pub fn vdown<T: Tray>(alloc: Global, words: &Vec<String>, tray: &mut T) -> u8
+    // With the statuses 0, 1, 2 and 6 the outcome of words and files is reached, and each channel got its due bytes.
+    ensures completed { IsCompleted result → (due : Due) × (due.status ≡ result)
+        × IfSome (T.files tray.old) (λ told. IsOutcome (texts_of words.now.items) told due)
+        × GotAll T.written tray.old tray.new due }
+
+    // Whether the words are taken needs no file.
+    ensures words { result ≡ 2 → file_of (texts_of words.now.items) ≡ None }
+    ensures not_taken { file_of (texts_of words.now.items) ≡ None → (result ≡ 2) ⊎ (result ≡ 4) }
+
+    // A fault in reading is that of the file that the words name, and Console names it.
+    ensures read_fault { result ≡ 3 → (file : List ℕ) × (file_of (texts_of words.now.items) ≡ Some file)
+        × Rose (T.read_faults tray.old file) (T.read_faults tray.new file)
+        × GotAll T.written tray.old tray.new (read_fault file) }
+
+    // After a fault in writing each channel got a front of its due bytes, a later one only where the earlier ones got all.
+    ensures write_fault { result ≡ 4 → Rose (T.write_faults tray.old) (T.write_faults tray.new) }
+    ensures fronts { result ≡ 4 → (due : Due)
+        × IfSome (T.files tray.old) (λ told. IsDueOrFault (texts_of words.now.items) told due)
+        × GotFronts T.written tray.old tray.new due }
+
+    // Nothing is written before all bytes are formed.
+    ensures memory { result ≡ 5 → (to : Channel) → GotNothing T.written tray.old tray.new to }
+    ensures statuses { result < 7 }
+{
+    let Some(file) = file_word(words) else {
+        return write_due(tray, 2, &[], &[], REFUSED_WORDS);
+    };
+    match ready_for(alloc, tray, file) {
+        Ok(ready) => write_due(
+            tray,
+            ready.status,
+            ready.design.as_slice(),
+            &ready.map,
+            &ready.console,
+        ),
+        Err(_) => MEMORY,
+    }
+}
+
+/// The outcome of words and files is one, so where a tray tells its files, the statuses 0, 1, 2 and 6, and what is written
+/// with them, are determined by words and files, faults and want of memory aside.
+pub fn one_outcome()
+    ensures { HasOneOutcome }
+{}
+
+// Writes what is due, and answers its status, or that writing failed.
+fn write_due<T: Tray>(tray: &mut T, status: u8, design: &[u8], map: &[u8], console: &[u8]) -> u8
+    requires no_fault { status ≢ 4 }
+    requires quiet { status ≢ 0 → (design.now ≡ []) × (map.now ≡ []) }
+    ensures all { result ≢ 4 → (result ≡ status)
+        × GotAll T.written tray.old tray.new (due_with status design.now map.now console.now) }
+    ensures fault { result ≡ 4 → Rose (T.write_faults tray.old) (T.write_faults tray.new) }
+    ensures fronts { result ≡ 4
+        → GotFronts T.written tray.old tray.new (due_with status design.now map.now console.now) }
+    ensures read_counts { (name : List ℕ) → T.read_faults tray.new name ≡ T.read_faults tray.old name }
+    ensures either { (result ≡ status) ⊎ (result ≡ 4) }
+{
+    match write_channels(tray, status == 0, design, map, console) {
+        Ok(()) => status,
+        Err(_) => 4,
+    }
+}
+
+// Writes the channels in their order; with no conversion the console alone.
+fn write_channels<T: Tray>(
+    tray: &mut T,
+    conversion: bool,
+    design: &[u8],
+    map: &[u8],
+    console: &[u8],
+) -> Result<(), WriteFault>
+    requires quiet { IsFalse conversion → (design.now ≡ []) × (map.now ≡ []) }
+    ensures all { OnOk result (GotAll T.written tray.old tray.new (due_with 0 design.now map.now console.now)) }
+    ensures fault { OnErr result (Rose (T.write_faults tray.old) (T.write_faults tray.new)) }
+    ensures fronts { OnErr result (GotFronts T.written tray.old tray.new (due_with 0 design.now map.now console.now)) }
+    ensures read_counts { (name : List ℕ) → T.read_faults tray.new name ≡ T.read_faults tray.old name }
+{
+    if conversion {
+        write_all(tray, Channel::Design, design)?;
+        write_all(tray, Channel::Map, map)?;
+    }
+    write_all(tray, Channel::Console, console)
+}

@@ -1,0 +1,4 @@
+mod BuiltLemmas
+pub mod ForestLemmas
+pub mod StoreLemmas
+pub mod TextLemmas

@@ -1,0 +1,23 @@
+use Rattle.std.proofs.Common.{◌<◌, arith}
+use Rattle.vd_forest.proofs.BuiltLemmas.{length_nodes, node_at, read_text, Reads}
+use Rattle.vd_forest.proofs.store.Store.head.Goals as goal
+use Rattle.vd_forest.proofs.store.Store.head.Goals.{After-index-node}
+use Rattle.vd_forest.proofs.store.Store.head.Given.{Over}
+
+pub index-node-requires : goal.index-node-requires
+index-node-requires g c =
+    omega (arith, length_nodes c.self.inside.texts c.self.inside.nodes.items c.args.self.now c.self.invariant c.self.view_is, c.self.inside.nodes.ok.0)
+
+read : (g : Over) (c : After-index-node g)
+    → Reads c.self.inside.texts c.self.inside.nodes.items c.args.self.now c.self.invariant c.self.view_is c.args.number c.index-node.result.now
+read g c =
+    let some : 0 < c.args.number = omega arith in
+    node_at c.self.inside.texts c.self.inside.nodes.items c.args.self.now c.self.invariant c.self.view_is c.args.number c.index-node.result.now some c.requires c.index-node.ensures
+
+pub get-text-requires : goal.get-text-requires
+get-text-requires g c = (read g (goal.at.get-text-requires g c).After-index-node).text_in
+
+pub returns : goal.returns
+returns g c =
+    let r = read g (goal.at.returns g c).After-index-node in
+    (read_text c.self.inside.texts c.self.inside.nodes.items c.args.self.now c.self.invariant c.self.view_is c.args.number c.index-node.result.now c.get-text.result.now r c.get-text.ensures, omega (arith, r.parts_in), omega (arith, r.next_in))

@@ -1,0 +1,5 @@
+pub mod Built
+pub mod Code
+pub mod Forest
+pub mod Store
+pub mod Texts

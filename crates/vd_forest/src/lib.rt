@@ -1,0 +1,13 @@
+//! Trees as flat nodes in one store, which contracts see as pure forests.
+#![tactic(auto)]
+
+pub mod cursor;
+mod numbers;
+pub mod store;
+#[cfg(test)]
+mod tests;
+pub mod texts;
+
+pub use cursor::{Cursor, Opened};
+pub use store::Store;
+pub use texts::Texts;

@@ -1,0 +1,18 @@
+use Rattle.std.proofs.Common.{◌≡◌, ◌≤◌, length}
+use Rattle.vd_forest.specs.Forest.{nothing}
+use Rattle.vd_forest.specs.Store.{at, Extends}
+use Rattle.vd_lex.specs.declared.tokens.TheConstants.{PROCESS}
+use Rattle.vd_grammar19.specs.Symbols.{word}
+use Rattle.vd_grammar19.specs.Known.{known_of}
+use Rattle.vd_grammar19.specs.Reader.{is, process_at, repeated_at}
+use Rattle.vd_grammar19.proofs.reader_processes.processes_at.Given as goal
+
+abbrev pub invariant-loop-store : goal.invariant-loop-store
+invariant-loop-store l = record {
+  within : l.made ≤ length l.store;
+  extends : Extends l.fn.store l.store;
+  reads : repeated_at (is (word PROCESS)) (process_at (known_of l.known) l.allowance) (at l.store l.made) l.rest ≡ repeated_at (is (word PROCESS)) (process_at (known_of l.known) l.allowance) nothing l.fn.tokens;
+}
+
+abbrev pub decreases-loop-store : goal.decreases-loop-store
+decreases-loop-store l = length l.rest

@@ -1,0 +1,11 @@
+pub mod Symbols
+pub mod Derivations
+pub mod Conditions
+pub mod Refusals
+pub mod Shapes
+pub mod Readings
+pub mod Reader
+pub mod Given
+pub mod Known
+pub mod PortNames
+pub mod Answers

@@ -1,0 +1,12 @@
+//! Reading a token list of the first language: a syntax tree, or the first place at which there is none.
+#![tactic(auto)]
+
+pub mod reader;
+mod reader_expressions;
+mod reader_known;
+mod reader_names;
+mod reader_ports;
+mod reader_processes;
+mod reader_steps;
+
+pub use reader::{GrammarEnd, one_reading, read19};

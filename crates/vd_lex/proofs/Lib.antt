@@ -1,0 +1,9 @@
+pub mod KindLemmas
+pub mod LexingExamples
+pub mod LexingExists
+pub mod LexingLaws
+pub mod LineLemmas
+pub mod NameLemmas
+pub mod ReadLemmas
+pub mod TableLemmas
+pub mod TokenLemmas

@@ -1,0 +1,5 @@
+pub mod LexingExample
+pub mod Lexings
+pub mod Lexis
+pub mod Scans
+pub mod Spellings

@@ -1,0 +1,9 @@
+pub mod ConversionLemmas
+pub mod FlavourLemmas
+pub mod LoweringLemmas
+pub mod OneConversion
+pub mod UnknownFound
+pub mod UnknownLaws
+pub mod UnknownLemmas
+pub mod ValidityLemmas
+pub mod WrittenLemmas

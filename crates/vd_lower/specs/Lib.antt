@@ -1,0 +1,5 @@
+pub mod Conversions
+pub mod Flavour
+pub mod Lowering
+pub mod Steps
+pub mod Unknown

@@ -1,0 +1,4 @@
+pub mod Words
+pub mod Identifiers
+pub mod Forms
+pub mod Validity

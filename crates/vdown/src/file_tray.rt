@@ -1,0 +1,174 @@
+//! A tray of real files: the trusted edge of the program.
+
+ghost use Rattle.std.specs.Prelude.{◌≡◌, ◌<◌, ◌≤◌, ℕ, List, None, length, true, false, IfOk, OnOk, OnErr, IsFalse};
+ghost use Rattle.vd_bytes.specs.Trays.{Rose, after_fault};
+
+use std::fs::File;
+use std::io::Read;
+use std::marker::Model;
+use std::os::fd::{AsFd, AsRawFd, OwnedFd};
+use vd_bytes::{Channel, Failed, Tray};
+
+/// Where Design goes, in the current folder.
+const DESIGN_FILE: &str = "vdown.vhd";
+
+/// Where Map goes, in the current folder.
+const MAP_FILE: &str = "vdown.map.json";
+
+/// Reads real files by name. Writes Design and Map as files of the current folder, each created, or emptied where it
+/// exists, at its first write, and Console on the standard output. What the files hold and what was written isn't
+/// told. One count stands for the faults in opening and reading files of every name.
+#[derive(Drop)]
+pub struct FileTray {
+    rt: HostRuntime,
+    reading: Option<File>,
+    design: Option<OwnedFd>,
+    map: Option<OwnedFd>,
+    console: Option<OwnedFd>,
+    read_faults: u64,
+    write_faults: u64,
+}
+
+impl Model for FileTray {
+    ghost use Rattle.std.specs.Prelude.{is_some};
+    ghost use Rattle.vdown.specs.FileTray.{FileState};
+
+    ghost Value = { FileState };
+
+    ghost view = { λ a. record {
+      is_reading = is_some a.reading;
+      read_faults = a.read_faults;
+      write_faults = a.write_faults;
+    } };
+}
+
+impl FileTray {
+    /// A tray of the program's files, made before any of them is opened: a file that is opened while the standard
+    /// output is closed takes its number, and would get what is meant for Console.
+    pub fn new(rt: HostRuntime) -> FileTray
+        ensures none_open { IsFalse (⟦<FileTray as Tray>⟧.is_open result) }
+        ensures no_read_fault { (name : List ℕ) → ⟦<FileTray as Tray>⟧.read_faults result name ≡ 0 }
+        ensures no_write_fault { ⟦<FileTray as Tray>⟧.write_faults result ≡ 0 }
+    {
+        FileTray {
+            rt,
+            reading: None,
+            design: None,
+            map: None,
+            console: rt.stdout().as_fd().try_clone_to_owned().ok(),
+            read_faults: 0,
+            write_faults: 0,
+        }
+    }
+}
+
+impl Tray for FileTray {
+    ghost files = { λ _. None };
+
+    ghost is_open = { λ tray. tray.is_reading };
+
+    ghost open_name = { λ _. None };
+
+    ghost rest = { λ _. None };
+
+    ghost written = { λ _ _. None };
+
+    ghost read_faults = { λ tray _. tray.read_faults };
+
+    ghost write_faults = { λ tray. tray.write_faults };
+
+    /// A folder may be opened; reading it then fails.
+    fn open_file(&mut self, name: &str) -> Result<(), Failed>
+        ensures ok { OnOk result (self.new ≡ record self.old { is_reading = true }) }
+        ensures err { OnErr result (self.new ≡ record self.old {
+          is_reading = false;
+          read_faults = after_fault self.old.read_faults;
+        }) }
+        ensures fault { OnErr result (Rose self.old.read_faults self.new.read_faults) }
+    {
+        match File::open(&self.rt, name) {
+            Ok(file) => {
+                self.reading = Some(file);
+                Ok(())
+            }
+            Err(_) => {
+                self.reading = None;
+                self.read_faults = self.read_faults.saturating_add(1);
+                Err(Failed)
+            }
+        }
+    }
+
+    /// Asks the system once.
+    fn read(&mut self, into: &mut [u8]) -> Result<usize, Failed>
+        ensures fits { IfOk result (λ n. n ≤ length into.new) }
+        ensures not_open { IsFalse self.old.is_reading → result ≡ Ok 0 }
+        ensures ok { OnOk result (self.new ≡ self.old) }
+        ensures err { OnErr result (self.new ≡ record self.old { read_faults = after_fault self.old.read_faults }) }
+        ensures fault { OnErr result (Rose self.old.read_faults self.new.read_faults) }
+    {
+        let Some(file) = &mut self.reading else {
+            return Ok(0);
+        };
+        match file.read(into) {
+            Ok(count) => Ok(count),
+            Err(_) => {
+                self.read_faults = self.read_faults.saturating_add(1);
+                Err(Failed)
+            }
+        }
+    }
+
+    /// Asks the system once, and keeps nothing back.
+    fn write(&mut self, to: Channel, piece: &[u8]) -> Result<usize, Failed>
+        ensures fits { IfOk result (λ k. k ≤ length piece.now) }
+        ensures moves { IfOk result (λ k. 0 < length piece.now → 0 < k) }
+        ensures ok { OnOk result (self.new ≡ self.old) }
+        ensures err { OnErr result (self.new ≡ record self.old { write_faults = after_fault self.old.write_faults }) }
+        ensures fault { OnErr result (Rose self.old.write_faults self.new.write_faults) }
+    {
+        let answer = match to {
+            Channel::Design => write_file(&self.rt, &mut self.design, DESIGN_FILE, piece),
+            Channel::Map => write_file(&self.rt, &mut self.map, MAP_FILE, piece),
+            Channel::Console => write_out(&self.console, piece),
+        };
+        if answer.is_err() {
+            self.write_faults = self.write_faults.saturating_add(1);
+        }
+        answer
+    }
+}
+
+// Writes some first bytes of the piece on the file, which is created, or emptied, where it isn't open yet.
+fn write_file(
+    rt: &HostRuntime,
+    file: &mut Option<OwnedFd>,
+    name: &str,
+    piece: &[u8],
+) -> Result<usize, Failed>
+    ensures fits { IfOk result (λ k. k ≤ length piece.now) }
+    ensures moves { IfOk result (λ k. 0 < length piece.now → 0 < k) }
+{
+    if file.is_none() {
+        match File::create(rt, name) {
+            Ok(created) => *file = Some(OwnedFd::from(created)),
+            Err(_) => return Err(Failed),
+        }
+    }
+    write_out(file, piece)
+}
+
+// Writes some first bytes of the piece on what is open, and fails where nothing is.
+fn write_out(out: &Option<OwnedFd>, piece: &[u8]) -> Result<usize, Failed>
+    ensures fits { IfOk result (λ k. k ≤ length piece.now) }
+    ensures moves { IfOk result (λ k. 0 < length piece.now → 0 < k) }
+{
+    let Some(fd) = out else {
+        return Err(Failed);
+    };
+    // A pipe that nobody reads any more is a fault, where a plain write would end the process by a signal.
+    match usize::try_from(os::write_no_sigpipe(fd.as_raw_fd(), piece)) {
+        Ok(count) if count <= piece.len() && (count > 0 || piece.is_empty()) => Ok(count),
+        _ => Err(Failed),
+    }
+}
