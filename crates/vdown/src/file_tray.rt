@@ -4,9 +4,10 @@ ghost use Rattle.std.specs.Prelude.{◌≡◌, ◌<◌, ◌≤◌, ℕ, List, No
 ghost use Rattle.vd_bytes.specs.Trays.{Rose, after_fault};
 
 use std::fs::File;
-use std::io::Read;
+use std::io::{Read, Write};
 use std::marker::Model;
-use std::os::fd::{AsFd, AsRawFd, OwnedFd};
+use std::os::fd::{AsFd, OwnedFd};
+use std::process::ChildStdin;
 use vd_bytes::{Channel, Failed, Tray};
 
 /// Where Design goes, in the current folder.
@@ -17,14 +18,16 @@ const MAP_FILE: &str = "vdown.map.json";
 
 /// Reads real files by name. Writes Design and Map as files of the current folder, each created, or emptied where it
 /// exists, at its first write, and Console on the standard output. What the files hold and what was written isn't
-/// told. One count stands for the faults in opening and reading files of every name.
+/// told. One count stands for the faults in opening and reading files of every name. All three are written as the input
+/// of another process is (`ChildStdin`): std's one writer for which a pipe that nobody reads any more is a fault, where
+/// that of a file would let a signal end the process.
 #[derive(Drop)]
 pub struct FileTray {
     rt: HostRuntime,
     reading: Option<File>,
-    design: Option<OwnedFd>,
-    map: Option<OwnedFd>,
-    console: Option<OwnedFd>,
+    design: Option<ChildStdin>,
+    map: Option<ChildStdin>,
+    console: Option<ChildStdin>,
     read_faults: u64,
     write_faults: u64,
 }
@@ -55,7 +58,12 @@ impl FileTray {
             reading: None,
             design: None,
             map: None,
-            console: rt.stdout().as_fd().try_clone_to_owned().ok(),
+            console: rt
+                .stdout()
+                .as_fd()
+                .try_clone_to_owned()
+                .ok()
+                .map(ChildStdin::from),
             read_faults: 0,
             write_faults: 0,
         }
@@ -130,7 +138,7 @@ impl Tray for FileTray {
         let answer = match to {
             Channel::Design => write_file(&self.rt, &mut self.design, DESIGN_FILE, piece),
             Channel::Map => write_file(&self.rt, &mut self.map, MAP_FILE, piece),
-            Channel::Console => write_out(&self.console, piece),
+            Channel::Console => write_out(&mut self.console, piece),
         };
         if answer.is_err() {
             self.write_faults = self.write_faults.saturating_add(1);
@@ -142,7 +150,7 @@ impl Tray for FileTray {
 // Writes some first bytes of the piece on the file, which is created, or emptied, where it isn't open yet.
 fn write_file(
     rt: &HostRuntime,
-    file: &mut Option<OwnedFd>,
+    file: &mut Option<ChildStdin>,
     name: &str,
     piece: &[u8],
 ) -> Result<usize, Failed>
@@ -151,7 +159,7 @@ fn write_file(
 {
     if file.is_none() {
         match File::create(rt, name) {
-            Ok(created) => *file = Some(OwnedFd::from(created)),
+            Ok(created) => *file = Some(ChildStdin::from(OwnedFd::from(created))),
             Err(_) => return Err(Failed),
         }
     }
@@ -159,16 +167,15 @@ fn write_file(
 }
 
 // Writes some first bytes of the piece on what is open, and fails where nothing is.
-fn write_out(out: &Option<OwnedFd>, piece: &[u8]) -> Result<usize, Failed>
+fn write_out(out: &mut Option<ChildStdin>, piece: &[u8]) -> Result<usize, Failed>
     ensures fits { IfOk result (λ k. k ≤ length piece.now) }
     ensures moves { IfOk result (λ k. 0 < length piece.now → 0 < k) }
 {
-    let Some(fd) = out else {
+    let Some(out) = out else {
         return Err(Failed);
     };
-    // A pipe that nobody reads any more is a fault, where a plain write would end the process by a signal.
-    match usize::try_from(os::write_no_sigpipe(fd.as_raw_fd(), piece)) {
-        Ok(count) if count <= piece.len() && (count > 0 || piece.is_empty()) => Ok(count),
+    match out.write(piece) {
+        Ok(count) if count > 0 || piece.is_empty() => Ok(count),
         _ => Err(Failed),
     }
 }
