@@ -18,7 +18,8 @@ pub struct Design19 {
 
 impl Model for Design19 {
     ghost use Rattle.std.specs.Prelude.{◌≡◌, ◌≤◌, length, true};
-    ghost use Rattle.vd_forest.specs.Forest.{Forest, coded_forest};
+    ghost use Rattle.vd_forest.specs.Forest.{Forest};
+    ghost use Rattle.vd_forest.specs.Code.{coded_forest};
     ghost use Rattle.vd_trees.specs.declared.form.Form.{Form};
     ghost use Rattle.vd_trees.specs.contracts.form.Form as forms;
 
@@ -64,7 +65,8 @@ pub struct Design93 {
 
 impl Model for Design93 {
     ghost use Rattle.std.specs.Prelude.{◌≡◌, ◌≤◌, length, true};
-    ghost use Rattle.vd_forest.specs.Forest.{Forest, coded_forest};
+    ghost use Rattle.vd_forest.specs.Forest.{Forest};
+    ghost use Rattle.vd_forest.specs.Code.{coded_forest};
     ghost use Rattle.vd_trees.specs.declared.form.Form.{Form};
     ghost use Rattle.vd_trees.specs.contracts.form.Form as forms;
 
