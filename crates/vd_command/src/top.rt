@@ -25,7 +25,8 @@ pub fn vdown<T: Tray>(alloc: Global, words: &Vec<String>, tray: &mut T) -> u8
         × GotAll T.written tray.old tray.new due }
 
     // Whether the words are taken needs no file.
-    ensures words { result ≡ 2 → file_of (texts_of words.now.items) ≡ None }
+    ensures words { result ≡ 2 → (file_of (texts_of words.now.items) ≡ None)
+        × GotAll T.written tray.old tray.new refused_words }
     ensures not_taken { file_of (texts_of words.now.items) ≡ None → (result ≡ 2) ⊎ (result ≡ 4) }
 
     // A fault in reading is that of the file that the words name, and Console names it.
@@ -39,9 +40,14 @@ pub fn vdown<T: Tray>(alloc: Global, words: &Vec<String>, tray: &mut T) -> u8
         × IfSome (T.files tray.old) (λ told. IsDueOrFault (texts_of words.now.items) told due)
         × GotFronts T.written tray.old tray.new due }
 
+    // Design and Map are written with a conversion alone.
+    ensures no_design { result ≢ 0 → result ≢ 4 → GotNothing T.written tray.old tray.new Channel.Design }
+    ensures no_map { result ≢ 0 → result ≢ 4 → GotNothing T.written tray.old tray.new Channel.Map }
+
     // Nothing is written before all bytes are formed.
     ensures memory { result ≡ 5 → (to : Channel) → GotNothing T.written tray.old tray.new to }
     ensures statuses { result < 7 }
+    ensures same_files { T.files tray.new ≡ T.files tray.old }
 {
     let Some(file) = file_word(words) else {
         return write_due(tray, 2, &[], &[], REFUSED_WORDS);
@@ -74,6 +80,9 @@ fn write_due<T: Tray>(tray: &mut T, status: u8, design: &[u8], map: &[u8], conso
     ensures fronts { result ≡ 4
         → GotFronts T.written tray.old tray.new (due_with status design.now map.now console.now) }
     ensures read_counts { (name : List ℕ) → T.read_faults tray.new name ≡ T.read_faults tray.old name }
+    ensures no_design { status ≢ 0 → GotNothing T.written tray.old tray.new Channel.Design }
+    ensures no_map { status ≢ 0 → GotNothing T.written tray.old tray.new Channel.Map }
+    ensures same_files { T.files tray.new ≡ T.files tray.old }
     ensures either { (result ≡ status) ⊎ (result ≡ 4) }
 {
     match write_channels(tray, status == 0, design, map, console) {
@@ -95,6 +104,9 @@ fn write_channels<T: Tray>(
     ensures fault { OnErr result (Rose (T.write_faults tray.old) (T.write_faults tray.new)) }
     ensures fronts { OnErr result (GotFronts T.written tray.old tray.new (due_with 0 design.now map.now console.now)) }
     ensures read_counts { (name : List ℕ) → T.read_faults tray.new name ≡ T.read_faults tray.old name }
+    ensures no_design { IsFalse conversion → GotNothing T.written tray.old tray.new Channel.Design }
+    ensures no_map { IsFalse conversion → GotNothing T.written tray.old tray.new Channel.Map }
+    ensures same_files { T.files tray.new ≡ T.files tray.old }
 {
     if conversion {
         write_all(tray, Channel::Design, design)?;
