@@ -1,4 +1,4 @@
-//! Tests that cross crates: the whole call over trays in memory.
+//! What crosses crates: the worked example from the definitions alone, and tests of the whole call over trays in memory.
 #![tactic(auto)]
 
 #[cfg(test)]
@@ -7,6 +7,7 @@ mod answers;
 mod calls;
 #[cfg(test)]
 mod conversions;
+pub mod example;
 #[cfg(test)]
 mod faults;
 #[cfg(test)]

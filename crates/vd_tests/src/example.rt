@@ -1,0 +1,14 @@
+//! The worked example, from the definitions alone.
+
+ghost use Rattle.vd_trees.specs.declared.revision.Revision.TheVariants.{V2019};
+ghost use Rattle.vd_grammar19.specs.Derivations.{IsFile};
+ghost use Rattle.vd_names.specs.Maps.{map_text_of};
+ghost use Rattle.vd_lower.specs.Conversions.{design_text, map_rows};
+ghost use Rattle.vd_tests.specs.Example.{example, IsItsDesign, IsItsMap};
+
+/// What the definitions make of the worked example.
+pub fn worked_example()
+    ensures in_the_grammar { IsFile V2019 example }
+    ensures design { IsItsDesign (design_text example) }
+    ensures map { IsItsMap (map_text_of (map_rows example)) }
+{}
