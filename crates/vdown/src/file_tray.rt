@@ -6,8 +6,7 @@ ghost use Rattle.vd_bytes.specs.Trays.{Rose, after_fault};
 use std::fs::File;
 use std::io::{Read, Write};
 use std::marker::Model;
-use std::os::fd::{AsFd, OwnedFd};
-use std::process::ChildStdin;
+use std::os::fd::AsFd;
 use vd_bytes::{Channel, Failed, Tray};
 
 /// Where Design goes, in the current folder.
@@ -18,16 +17,15 @@ const MAP_FILE: &str = "vdown.map.json";
 
 /// Reads real files by name. Writes Design and Map as files of the current folder, each created, or emptied where it
 /// exists, at its first write, and Console on the standard output. What the files hold and what was written isn't
-/// told. One count stands for the faults in opening and reading files of every name. All three are written as the input
-/// of another process is (`ChildStdin`): std's one writer for which a pipe that nobody reads any more is a fault, where
-/// that of a file would let a signal end the process.
+/// told. One count stands for the faults in opening and reading files of every name. A standard output that was closed
+/// from the start is a fault, also where a file has taken its number since.
 #[derive(Drop)]
 pub struct FileTray {
     rt: HostRuntime,
     reading: Option<File>,
-    design: Option<ChildStdin>,
-    map: Option<ChildStdin>,
-    console: Option<ChildStdin>,
+    design: Option<File>,
+    map: Option<File>,
+    has_console: bool,
     read_faults: u64,
     write_faults: u64,
 }
@@ -47,7 +45,7 @@ impl Model for FileTray {
 
 impl FileTray {
     /// A tray of the program's files, made before any of them is opened: a file that is opened while the standard
-    /// output is closed takes its number, and would get what is meant for Console.
+    /// output is closed takes its number, and would get what is meant for Console. So it is asked here whether it is open.
     pub fn new(rt: HostRuntime) -> FileTray
         ensures none_open { IsFalse (⟦<FileTray as Tray>⟧.is_open result) }
         ensures no_read_fault { (name : List ℕ) → ⟦<FileTray as Tray>⟧.read_faults result name ≡ 0 }
@@ -58,12 +56,7 @@ impl FileTray {
             reading: None,
             design: None,
             map: None,
-            console: rt
-                .stdout()
-                .as_fd()
-                .try_clone_to_owned()
-                .ok()
-                .map(ChildStdin::from),
+            has_console: rt.stdout().as_fd().try_clone_to_owned().is_ok(),
             read_faults: 0,
             write_faults: 0,
         }
@@ -138,7 +131,7 @@ impl Tray for FileTray {
         let answer = match to {
             Channel::Design => write_file(&self.rt, &mut self.design, DESIGN_FILE, piece),
             Channel::Map => write_file(&self.rt, &mut self.map, MAP_FILE, piece),
-            Channel::Console => write_out(&mut self.console, piece),
+            Channel::Console => write_console(&self.rt, self.has_console, piece),
         };
         if answer.is_err() {
             self.write_faults = self.write_faults.saturating_add(1);
@@ -150,7 +143,7 @@ impl Tray for FileTray {
 // Writes some first bytes of the piece on the file, which is created, or emptied, where it isn't open yet.
 fn write_file(
     rt: &HostRuntime,
-    file: &mut Option<ChildStdin>,
+    file: &mut Option<File>,
     name: &str,
     piece: &[u8],
 ) -> Result<usize, Failed>
@@ -159,21 +152,32 @@ fn write_file(
 {
     if file.is_none() {
         match File::create(rt, name) {
-            Ok(created) => *file = Some(ChildStdin::from(OwnedFd::from(created))),
+            Ok(created) => *file = Some(created),
             Err(_) => return Err(Failed),
         }
     }
-    write_out(file, piece)
+    match file {
+        Some(file) => write_out(file, piece),
+        None => Err(Failed),
+    }
 }
 
-// Writes some first bytes of the piece on what is open, and fails where nothing is.
-fn write_out(out: &mut Option<ChildStdin>, piece: &[u8]) -> Result<usize, Failed>
+// Writes some first bytes of the piece on the standard output, and fails where it was closed from the start.
+fn write_console(rt: &HostRuntime, is_open: bool, piece: &[u8]) -> Result<usize, Failed>
     ensures fits { IfOk result (λ k. k ≤ length piece.now) }
     ensures moves { IfOk result (λ k. 0 < length piece.now → 0 < k) }
 {
-    let Some(out) = out else {
+    if !is_open {
         return Err(Failed);
-    };
+    }
+    write_out(&mut rt.stdout(), piece)
+}
+
+// Writes some first bytes of the piece.
+fn write_out<W: Write>(out: &mut W, piece: &[u8]) -> Result<usize, Failed>
+    ensures fits { IfOk result (λ k. k ≤ length piece.now) }
+    ensures moves { IfOk result (λ k. 0 < length piece.now → 0 < k) }
+{
     match out.write(piece) {
         Ok(count) if count > 0 || piece.is_empty() => Ok(count),
         _ => Err(Failed),
