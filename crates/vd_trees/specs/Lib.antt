@@ -2,3 +2,8 @@ pub mod Words
 pub mod Identifiers
 pub mod Forms
 pub mod Validity
+pub mod Traces
+pub mod Paths
+pub mod ValueTexts
+pub mod TraceText
+pub mod TraceExamples

@@ -1,1 +1,4 @@
 pub mod LogicTables
+pub mod Matching
+pub mod Resolution
+pub mod Times

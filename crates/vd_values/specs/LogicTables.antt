@@ -30,6 +30,36 @@ and_row Dash = U ∷ X ∷ Zero ∷ X ∷ X ∷ X ∷ Zero ∷ X ∷ X ∷ []
 abbrev pub and_of : Logic → Logic → Logic
 and_of l r = slice_index_or (and_row l) (column_of r) X
 
+-- the table of `or`, with the same rows and columns
+abbrev pub or_row : Logic → List Logic
+or_row U = U ∷ U ∷ U ∷ One ∷ U ∷ U ∷ U ∷ One ∷ U ∷ []
+or_row X = U ∷ X ∷ X ∷ One ∷ X ∷ X ∷ X ∷ One ∷ X ∷ []
+or_row Zero = U ∷ X ∷ Zero ∷ One ∷ X ∷ X ∷ Zero ∷ One ∷ X ∷ []
+or_row One = One ∷ One ∷ One ∷ One ∷ One ∷ One ∷ One ∷ One ∷ One ∷ []
+or_row Z = U ∷ X ∷ X ∷ One ∷ X ∷ X ∷ X ∷ One ∷ X ∷ []
+or_row W = U ∷ X ∷ X ∷ One ∷ X ∷ X ∷ X ∷ One ∷ X ∷ []
+or_row L = U ∷ X ∷ Zero ∷ One ∷ X ∷ X ∷ Zero ∷ One ∷ X ∷ []
+or_row H = One ∷ One ∷ One ∷ One ∷ One ∷ One ∷ One ∷ One ∷ One ∷ []
+or_row Dash = U ∷ X ∷ X ∷ One ∷ X ∷ X ∷ X ∷ One ∷ X ∷ []
+
+abbrev pub or_of : Logic → Logic → Logic
+or_of l r = slice_index_or (or_row l) (column_of r) X
+
+-- the table of `xor`, with the same rows and columns
+abbrev pub xor_row : Logic → List Logic
+xor_row U = U ∷ U ∷ U ∷ U ∷ U ∷ U ∷ U ∷ U ∷ U ∷ []
+xor_row X = U ∷ X ∷ X ∷ X ∷ X ∷ X ∷ X ∷ X ∷ X ∷ []
+xor_row Zero = U ∷ X ∷ Zero ∷ One ∷ X ∷ X ∷ Zero ∷ One ∷ X ∷ []
+xor_row One = U ∷ X ∷ One ∷ Zero ∷ X ∷ X ∷ One ∷ Zero ∷ X ∷ []
+xor_row Z = U ∷ X ∷ X ∷ X ∷ X ∷ X ∷ X ∷ X ∷ X ∷ []
+xor_row W = U ∷ X ∷ X ∷ X ∷ X ∷ X ∷ X ∷ X ∷ X ∷ []
+xor_row L = U ∷ X ∷ Zero ∷ One ∷ X ∷ X ∷ Zero ∷ One ∷ X ∷ []
+xor_row H = U ∷ X ∷ One ∷ Zero ∷ X ∷ X ∷ One ∷ Zero ∷ X ∷ []
+xor_row Dash = U ∷ X ∷ X ∷ X ∷ X ∷ X ∷ X ∷ X ∷ X ∷ []
+
+abbrev pub xor_of : Logic → Logic → Logic
+xor_of l r = slice_index_or (xor_row l) (column_of r) X
+
 -- the table of `not`
 abbrev pub not_row : List Logic
 not_row = U ∷ X ∷ One ∷ Zero ∷ X ∷ X ∷ One ∷ Zero ∷ X ∷ []

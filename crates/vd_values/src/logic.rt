@@ -1,7 +1,7 @@
-//! The nine values of IEEE 1164, and two of its operators.
+//! The nine values of IEEE 1164, and its logical operators.
 
 ghost use Rattle.std.specs.Prelude.{◌≡◌};
-ghost use Rattle.vd_values.specs.LogicTables.{and_of, not_of};
+ghost use Rattle.vd_values.specs.LogicTables.{and_of, or_of, xor_of, not_of};
 
 /// A value of `std_ulogic`, in the order of its declaration.
 #[derive(Clone, Copy, PartialEq, Eq, Debug)]
@@ -34,6 +34,32 @@ pub fn logic_and(l: Logic, r: Logic) -> Logic
         (Logic::Zero | Logic::L, _) | (_, Logic::Zero | Logic::L) => Logic::Zero,
         (Logic::U, _) | (_, Logic::U) => Logic::U,
         (Logic::One | Logic::H, Logic::One | Logic::H) => Logic::One,
+        _ => Logic::X,
+    }
+}
+
+/// The operator `or`.
+pub fn logic_or(l: Logic, r: Logic) -> Logic
+    ensures { result ≡ or_of l r }
+{
+    match (l, r) {
+        (Logic::One | Logic::H, _) | (_, Logic::One | Logic::H) => Logic::One,
+        (Logic::U, _) | (_, Logic::U) => Logic::U,
+        (Logic::Zero | Logic::L, Logic::Zero | Logic::L) => Logic::Zero,
+        _ => Logic::X,
+    }
+}
+
+/// The operator `xor`.
+pub fn logic_xor(l: Logic, r: Logic) -> Logic
+    ensures { result ≡ xor_of l r }
+{
+    match (l, r) {
+        (Logic::U, _) | (_, Logic::U) => Logic::U,
+        (Logic::Zero | Logic::L, Logic::Zero | Logic::L) => Logic::Zero,
+        (Logic::One | Logic::H, Logic::One | Logic::H) => Logic::Zero,
+        (Logic::Zero | Logic::L, Logic::One | Logic::H) => Logic::One,
+        (Logic::One | Logic::H, Logic::Zero | Logic::L) => Logic::One,
         _ => Logic::X,
     }
 }
