@@ -38,11 +38,11 @@ is_name_rest-lowered [] = refl
 is_name_rest-lowered (b ∷ bs) =
     rw (is_letter_or_digit-lower b, underscore-lower b, starts-lowered bs, is_name_rest-lowered bs) refl
 
-is_name-lowered : (bs : List ℕ) → is_name (lowered bs) ≡ is_name bs
+pub is_name-lowered : (bs : List ℕ) → is_name (lowered bs) ≡ is_name bs
 is_name-lowered [] = refl
 is_name-lowered (b ∷ bs) = rw (is_letter-lower b, is_name_rest-lowered bs) refl
 
-lowered-lowered : (bs : List ℕ) → lowered (lowered bs) ≡ lowered bs
+pub lowered-lowered : (bs : List ℕ) → lowered (lowered bs) ≡ lowered bs
 lowered-lowered [] = refl
 lowered-lowered (b ∷ bs) = rw (lower-lower b, lowered-lowered bs) refl
 

@@ -50,7 +50,7 @@ module _ (r : Revision) where
   letter_no_mark b more letter =
       rw (other_byte b 40 letter refl, other_byte b 41 letter refl, other_byte b 44 letter refl, other_byte b 46 letter refl, other_byte b 58 letter refl, other_byte b 59 letter refl, other_byte b 60 letter refl) refl
 
-  letter_no_token : (b : ℕ) (more : List ℕ) → is_letter b ≡ true → is_name (b ∷ more) ≡ false → kind_of r (b ∷ more) ≡ None
+  pub letter_no_token : (b : ℕ) (more : List ℕ) → is_letter b ≡ true → is_name (b ∷ more) ≡ false → kind_of r (b ∷ more) ≡ None
   letter_no_token b more letter no_name = rw (no_name, letter_no_mark b more letter) refl
 
   pub name_begins : (bs : List ℕ) (n : ℕ) → is_letter (slice_index bs 0) ≡ true → IsLongestName bs n

@@ -1,3 +1,4 @@
 pub mod Counts
 pub mod Layout
+pub mod ReadingBack
 pub mod Writing

@@ -2,6 +2,7 @@
 #![tactic(auto)]
 
 pub mod layout;
+pub mod reading_back;
 pub mod writing;
 
 pub use writing::derive93;

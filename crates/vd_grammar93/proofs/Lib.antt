@@ -1,0 +1,17 @@
+pub mod Lists
+pub mod Given
+pub mod Replaced
+pub mod Alike
+pub mod PlacelessGrammar
+pub mod PlacelessNames
+pub mod PlacelessShapes
+pub mod Placeless
+pub mod WrittenFile
+pub mod WrittenExpressions
+pub mod WrittenPorts
+pub mod ReadNames
+pub mod WrittenProcesses
+pub mod WrittenTokens
+pub mod WrittenText
+pub mod WrittenGiven
+pub mod WrittenIsText

@@ -1,0 +1,4 @@
+pub mod FlavourLemmas
+pub mod LoweringLemmas
+pub mod ValidityLemmas
+pub mod WrittenLemmas

@@ -1,0 +1,2 @@
+pub mod Flavour
+pub mod Lowering
