@@ -1,0 +1,10 @@
+pub mod FileLemmas
+pub mod FileRunLemmas
+pub mod KnownLemmas
+pub mod NameLemmas
+pub mod PortLemmas
+pub mod ProcessLemmas
+pub mod SameRunLemmas
+pub mod SameShapeLemmas
+pub mod TraceLemmas
+pub mod WholeMapLemmas

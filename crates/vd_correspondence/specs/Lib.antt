@@ -1,0 +1,5 @@
+pub mod Laws
+pub mod Relations
+pub mod SameRuns
+pub mod SameTraces
+pub mod WholeMaps
