@@ -2,7 +2,7 @@
 use Rattle.std.proofs.Common.{◌≡◌, ◌≢◌, ◌<◌, ◌≤◌, ℕ, suc, zero, List, [], ◌∷◌, length, get_or, refl, sym, ap, ◌∙◌, subst, arith, inl, inr, Option, Some, None, IfSome}
 use Rattle.std.proofs.lemmas.Option.{IfSome_then}
 use Rattle.vd_bytes.specs.declared.channels.Channel.{Channel}
-use Rattle.vd_bytes.specs.Trays.{content_of}
+use Rattle.vd_bytes.specs.Trays.{content_of, Rose}
 use Rattle.vd_lex.specs.declared.selected.Selected.{Selected}
 use Rattle.vd_lex.specs.Lexings.{ColumnsFit, plain_of}
 use Rattle.vd_lower.specs.Conversions.{Answer, refused, beyond, converted, IsConversion}
@@ -60,11 +60,13 @@ module _ {S : Type 0} (read_faults : S → List ℕ → ℕ) (written : S → Ch
       not_four n (inr (inr (inl z))) f = cc
       not_four n (inr (inr (inr z))) f = cc
 
-  pub fronts_as : (due : Due) → IsReady read_faults old mid told file due → GotFronts written mid new due
-      → (d : Due) × IfSome told (λ files. IsDueOrFault words files d) × GotFronts written old new d
-  fronts_as due (IsReady.faulted rose e) g = (due, always told (λ files. inr (file, names, e)), got_fronts_before written old mid new same due g)
+  pub fronts_as : ((name : List ℕ) → read_faults new name ≡ read_faults mid name) → (due : Due) → IsReady read_faults old mid told file due → GotFronts written mid new due
+      → (d : Due) × IfSome told (λ files. IsDueOrFault read_faults old new words files d) × GotFronts written old new d
+  fronts_as counts due (IsReady.faulted rose e) g =
+      let risen = subst (Rose (read_faults old file)) (sym (counts file)) rose in
+      (due, always told (λ files. inr (file, names, risen, e)), got_fronts_before written old mid new same due g)
     where
-      always : (t : Option (List (List ℕ × List ℕ))) → ((files : List (List ℕ × List ℕ)) → IsDueOrFault words files due) → IfSome t (λ files. IsDueOrFault words files due)
+      always : (t : Option (List (List ℕ × List ℕ))) → ((files : List (List ℕ × List ℕ)) → IsDueOrFault read_faults old new words files due) → IfSome t (λ files. IsDueOrFault read_faults old new words files due)
       always None h = tt
       always (Some files) h = h files
-  fronts_as due (IsReady.formed s o) g = (due, IfSome_then told (outcome_for due o) (λ files h. inl h), got_fronts_before written old mid new same due g)
+  fronts_as counts due (IsReady.formed s o) g = (due, IfSome_then told (outcome_for due o) (λ files h. inl h), got_fronts_before written old mid new same due g)

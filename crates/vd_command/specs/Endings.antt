@@ -32,9 +32,12 @@ GotNothing written old new to = written new to ≡ written old to
 abbrev pub IsCompleted : ℕ → Type 0
 IsCompleted status = (status ≡ 0) ⊎ ((status ≡ 1) ⊎ ((status ≡ 2) ⊎ (status ≡ 6)))
 
--- what was to be written: the outcome, or the line of a fault in reading the file that the words name
-abbrev pub IsDueOrFault : List (List ℕ) → List (List ℕ × List ℕ) → Due → Type 0
-IsDueOrFault words files due = IsOutcome words files due ⊎ ((file : List ℕ) × (file_of words ≡ Some file) × (due ≡ read_fault file))
+-- what was to be written: the outcome, or the line of a fault in reading the file that the words name, where its count rose. The first
+-- argument is the tray's meaning of its counts
+abbrev pub IsDueOrFault : {S : Type 0} → (S → List ℕ → ℕ) → S → S → List (List ℕ) → List (List ℕ × List ℕ) → Due → Type 0
+IsDueOrFault read_faults old new words files due =
+    IsOutcome words files due
+    ⊎ ((file : List ℕ) × (file_of words ≡ Some file) × Rose (read_faults old file) (read_faults new file) × (due ≡ read_fault file))
 
 -- what a value of the program holds
 abbrev pub due_with : ℕ → List ℕ → List ℕ → List ℕ → Due

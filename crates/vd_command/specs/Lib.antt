@@ -1,3 +1,4 @@
-pub mod Words
-pub mod Outcomes
 pub mod Endings
+pub mod Headline
+pub mod Outcomes
+pub mod Words

@@ -6,6 +6,7 @@ ghost use Rattle.vd_bytes.specs.Trays.{Rose};
 ghost use Rattle.vd_command.specs.Words.{file_of, texts_of};
 ghost use Rattle.vd_command.specs.Outcomes.{Due, refused_words, read_fault, HasOneOutcome, IsFileOutcome, IsOutcome};
 ghost use Rattle.vd_command.specs.Endings.{GotAll, GotFronts, GotNothing, IsCompleted, IsDueOrFault, IsReady, due_in, due_with};
+ghost use Rattle.vd_command.specs.Headline.{ConvertsFile, HasNoFault, NamesAcceptable};
 
 use crate::console::REFUSED_WORDS;
 use crate::ready::ready_for;
@@ -24,6 +25,18 @@ pub fn vdown<T: Tray>(alloc: Global, words: &Vec<String>, tray: &mut T) -> u8
         × IfSome (T.files tray.old) (λ told. IsOutcome (texts_of words.now.items) told due)
         × GotAll T.written tray.old tray.new due }
 
+    // With status 0 Design and Map got a design and a map that say what the file says: a 1993 text with a whole map, the
+    // same interface, and the same run for every top, all inputs and every number of cycles.
+    ensures headline { result ≡ 0
+        → IfSome (T.files tray.old) (λ told. ConvertsFile T.written tray.old tray.new (texts_of words.now.items) told) }
+
+    // Where no fault came and memory sufficed, the outcome is reached; and a file of the language within the limits is then
+    // converted.
+    ensures complete { HasNoFault T.read_faults T.write_faults tray.old tray.new (texts_of words.now.items)
+        → result ≢ 5 → IsCompleted result }
+    ensures accepts { HasNoFault T.read_faults T.write_faults tray.old tray.new (texts_of words.now.items)
+        → result ≢ 5 → IfSome (T.files tray.old) (λ told. NamesAcceptable (texts_of words.now.items) told → result ≡ 0) }
+
     // Whether the words are taken needs no file.
     ensures words { result ≡ 2 → (file_of (texts_of words.now.items) ≡ None)
         × GotAll T.written tray.old tray.new refused_words }
@@ -37,7 +50,7 @@ pub fn vdown<T: Tray>(alloc: Global, words: &Vec<String>, tray: &mut T) -> u8
     // After a fault in writing each channel got a front of its due bytes, a later one only where the earlier ones got all.
     ensures write_fault { result ≡ 4 → Rose (T.write_faults tray.old) (T.write_faults tray.new) }
     ensures fronts { result ≡ 4 → (due : Due)
-        × IfSome (T.files tray.old) (λ told. IsDueOrFault (texts_of words.now.items) told due)
+        × IfSome (T.files tray.old) (λ told. IsDueOrFault T.read_faults tray.old tray.new (texts_of words.now.items) told due)
         × GotFronts T.written tray.old tray.new due }
 
     // Design and Map are written with a conversion alone.

@@ -12,8 +12,8 @@ use Rattle.vd_names.specs.Maps.{design_rows}
 use Rattle.vd_lower.specs.declared.conversion.Converted.{Converted}
 use Rattle.vd_lower.specs.declared.conversion.ConvertEnd.{ConvertEnd}
 use Rattle.vd_lower.specs.declared.conversion.ConvertEnd.TheVariants as ends
-use Rattle.vd_lower.specs.Lowering.{lowered}
-use Rattle.vd_lower.specs.Flavour.{flavoured}
+use Rattle.vd_passes.specs.Lowering.{lowered}
+use Rattle.vd_passes.specs.Flavour.{flavoured}
 use Rattle.vd_lower.specs.Unknown.{first_unknown}
 use Rattle.vd_lower.specs.Conversions.{HasTokens, Converts}
 use Rattle.vd_lower.specs.Steps.{WritesOrRefuses}

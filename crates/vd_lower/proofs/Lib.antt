@@ -1,9 +1,7 @@
 pub mod ConversionLemmas
-pub mod FlavourLemmas
-pub mod LoweringLemmas
+pub mod Faithful
+pub mod LaidOut
 pub mod OneConversion
 pub mod UnknownFound
 pub mod UnknownLaws
 pub mod UnknownLemmas
-pub mod ValidityLemmas
-pub mod WrittenLemmas

@@ -14,7 +14,7 @@ use Rattle.vd_grammar19.specs.Conditions.{texts_of, port_names}
 use Rattle.vd_grammar19.specs.Refusals.{object_names, IsPortName, AllNamesKnown, IsFirstUnknown}
 use Rattle.vd_grammar19.specs.Shapes.{name_nodes, file_shape}
 use Rattle.std.specs.Cmp.{IsEquivalence}
-use Rattle.vd_lower.specs.Lowering.{names_in, is_among}
+use Rattle.vd_passes.specs.Lowering.{names_in, is_among}
 use Rattle.vd_lower.specs.Unknown.{with_all, first_outside, first_unknown}
 use Rattle.vd_lower.proofs.UnknownLaws.{file_named, file_listed}
 

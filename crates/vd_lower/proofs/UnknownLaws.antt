@@ -17,28 +17,15 @@ use Rattle.vd_grammar19.specs.Derivations.{Expression, name, brackets, inverted,
 use Rattle.vd_grammar19.specs.Conditions.{texts_of, port_names, expression_names, sensitivity_names, process_names}
 use Rattle.vd_grammar19.specs.Refusals.{object_names}
 use Rattle.vd_grammar19.specs.Shapes.{identifiers, expression_shape, if_out, subtype_shape, port_shape, further_ports_shape, name_nodes, sensitivity_shape, is_shape, assignment_shape, process_shape, processes_shape, optional_identifier, entity_shape, architecture_shape, file_shape}
-use Rattle.vd_lower.specs.Lowering.{names_in}
+use Rattle.vd_passes.specs.Lowering.{names_in}
+use Rattle.vd_grammar93.proofs.ReadNames.{name_nodes-append, expression_named}
 use Rattle.vd_lower.specs.Unknown.{texts_in, listed_names}
 
 -- ---- the names of a tree
 
-name_nodes-append : (ts us : List Token) → name_nodes (ts ++ us) ≡ joined (name_nodes ts) (name_nodes us)
-name_nodes-append [] us = refl
-name_nodes-append (t ∷ ts) us = ap (λ f. more form.Name [] t.place (more form.Identifier t.text t.place nothing nothing) f) (name_nodes-append ts us)
-
 names_in-name_nodes : (ts : List Token) → names_in (name_nodes ts) ≡ name_nodes ts
 names_in-name_nodes [] = refl
 names_in-name_nodes (t ∷ ts) = ap (λ f. more form.Name [] t.place (more form.Identifier t.text t.place nothing nothing) f) (names_in-name_nodes ts)
-
-expression_named : (e : Expression) (next : Forest Form) → names_in (expression_shape e next) ≡ joined (name_nodes (expression_names e)) (names_in next)
-expression_named (name t) next = refl
-expression_named (brackets o e c) next = expression_named e next
-expression_named (inverted w e) next = ap (λ f. joined f (names_in next)) (expression_named e nothing ∙ joined_nothing (name_nodes (expression_names e)))
-expression_named (conjoined e w f) next =
-    ap (λ g. joined g (names_in next))
-    (expression_named e (expression_shape f nothing)
-    ∙ ap (joined (name_nodes (expression_names e))) (expression_named f nothing ∙ joined_nothing (name_nodes (expression_names f)))
-    ∙ sym (name_nodes-append (expression_names e) (expression_names f)))
 
 assignment_named : (target : Token) (value : Expression) → names_in (assignment_shape target value nothing) ≡ name_nodes (target ∷ expression_names value)
 assignment_named target value =

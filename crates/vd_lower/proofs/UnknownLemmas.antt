@@ -5,7 +5,7 @@ use Rattle.vd_bytes.specs.declared.places.Place.{Place}
 use Rattle.vd_forest.specs.Forest.{Forest, nothing, more, text_of, joined}
 use Rattle.vd_forest.specs.Texts.{with_text}
 use Rattle.vd_trees.specs.declared.form.Form.{Form}
-use Rattle.vd_lower.specs.Lowering.{is_among}
+use Rattle.vd_passes.specs.Lowering.{is_among}
 use Rattle.vd_lower.specs.Unknown.{with_all, first_outside}
 
 with_all-append : (texts xs ys : List (List ℕ)) → with_all texts (xs ++ ys) ≡ with_all (with_all texts xs) ys

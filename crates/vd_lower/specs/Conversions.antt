@@ -16,8 +16,8 @@ use Rattle.vd_lex.specs.Lexis.{IsTokenList, BreaksAt}
 use Rattle.vd_grammar19.specs.Derivations.{File}
 use Rattle.vd_grammar19.specs.Refusals.{IsRead, IsRefusedAt, IsTooDeepAt, IsFirstUnknown, AllNamesKnown, place_of_token}
 use Rattle.vd_grammar19.specs.Shapes.{file_shape}
-use Rattle.vd_lower.specs.Lowering.{lowered}
-use Rattle.vd_lower.specs.Flavour.{flavoured}
+use Rattle.vd_passes.specs.Lowering.{lowered}
+use Rattle.vd_passes.specs.Flavour.{flavoured}
 use Rattle.vd_print93.specs.Writing.{design_tokens}
 use Rattle.vd_print93.specs.Layout.{layout_of}
 use Rattle.vd_names.specs.Maps.{design_rows}

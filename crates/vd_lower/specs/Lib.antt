@@ -1,5 +1,4 @@
 pub mod Conversions
-pub mod Flavour
-pub mod Lowering
+pub mod Headline
 pub mod Steps
 pub mod Unknown

@@ -9,8 +9,8 @@ use Rattle.vd_lower.specs.declared.conversion.ConvertEnd.TheVariants as ends
 use Rattle.vd_print93.specs.Writing.{design_tokens}
 use Rattle.vd_print93.specs.Layout.{layout_of}
 use Rattle.vd_names.specs.Maps.{design_rows}
-use Rattle.vd_lower.specs.Lowering.{lowered}
-use Rattle.vd_lower.specs.Flavour.{flavoured}
+use Rattle.vd_passes.specs.Lowering.{lowered}
+use Rattle.vd_passes.specs.Flavour.{flavoured}
 use Rattle.vd_lower.specs.Unknown.{first_unknown}
 use Rattle.vd_lower.specs.Conversions.{Answer, IsConversion}
 

@@ -6,7 +6,7 @@ use Rattle.vd_forest.specs.Texts.{with_text}
 use Rattle.vd_trees.specs.declared.form.Form.{Form}
 use Rattle.vd_trees.specs.declared.form.Form.TheVariants as form
 use Rattle.vd_trees.specs.Forms.{same_form}
-use Rattle.vd_lower.specs.Lowering.{names_in, is_among}
+use Rattle.vd_passes.specs.Lowering.{names_in, is_among}
 
 -- the texts of some leaves
 abbrev pub texts_in : Forest Form → List (List ℕ)

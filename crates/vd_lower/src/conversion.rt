@@ -7,9 +7,9 @@ ghost use Rattle.vd_lex.specs.declared.selected.Selected.{Selected};
 ghost use Rattle.vd_lex.specs.Lexings.{ColumnsFit, EndsOnce, IsPossible};
 ghost use Rattle.vd_grammar19.specs.Readings.{tree, IsReading};
 ghost use Rattle.vd_lower.specs.Conversions.{HasTokens, IsOnly, EndsAs, Converts};
+ghost use Rattle.vd_lower.specs.Headline.{IsIn93, IsLaidOut, HaveTops, HasWholeMap, KeepsInterface, KeepsRun};
 ghost use Rattle.vd_lower.specs.Steps.{IsWritten, WritesOrRefuses, HasOneConversion};
 
-use crate::flavour::lower;
 use crate::unknown::find_unknown;
 use std::alloc::{AllocError, Global};
 use vd_bytes::{Bytes, Limit, Refusal, Refused};
@@ -17,6 +17,7 @@ use vd_grammar19::{GrammarEnd, read19};
 use vd_lex::tokens::TOKENS_LIMIT;
 use vd_lex::{Selected, Token, lex19};
 use vd_names::{NameMap, map_of};
+use vd_passes::lower;
 use vd_print93::derive93;
 use vd_print93::layout::layout;
 use vd_trees::Design19;
@@ -42,6 +43,16 @@ pub fn convert(alloc: Global, files: &[Selected]) -> Result<Converted, ConvertEn
     requires one { length files.now ≡ 1 }
     requires columns { All ColumnsFit files.now }
     ensures exact { (file : Selected) → IsOnly files.now file → Converts file result }
+
+    // The bytes of the design, read again, are a 1993 text in which nothing is refused, and they are laid out as tokens are.
+    ensures in_93 { IfOk result (λ c. IsIn93 c.design) }
+    ensures laid_out { IfOk result (λ c. IsLaidOut c.design) }
+
+    // What ties the bytes to the file, for every top; and there are tops.
+    ensures tops { (file : Selected) → IsOnly files.now file → IfOk result (λ c. HaveTops file c.design) }
+    ensures whole_map { (file : Selected) → IsOnly files.now file → IfOk result (λ c. HasWholeMap file c.design c.map.rows) }
+    ensures interface { (file : Selected) → IsOnly files.now file → IfOk result (λ c. KeepsInterface file c.design) }
+    ensures same_run { (file : Selected) → IsOnly files.now file → IfOk result (λ c. KeepsRun file c.design c.map.rows) }
 {
     convert_file(alloc, &files[0])
 }

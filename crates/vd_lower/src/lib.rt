@@ -2,11 +2,7 @@
 #![tactic(auto)]
 
 pub mod conversion;
-mod flavour;
-mod lowering;
-mod names;
 mod unknown;
 
 pub use conversion::{ConvertEnd, Converted, convert, one_conversion};
-pub use flavour::lower;
 pub use unknown::find_unknown;

@@ -1,13 +1,13 @@
 //! The first name that is no port.
 
 ghost use Rattle.std.specs.Prelude.{◌≡◌, OnOk, IfOk, None, ℕ, List};
-ghost use Rattle.vd_lower.specs.Lowering.{names_in, tree_names, is_among};
+ghost use Rattle.vd_passes.specs.Lowering.{names_in, tree_names, is_among};
 ghost use Rattle.vd_lower.specs.Unknown.{listed_names, tree_listed, texts_in, first_outside, first_unknown, with_all};
 
-use crate::names::NameSet;
 use std::alloc::{AllocError, Global};
 use vd_bytes::Place;
 use vd_forest::{Cursor, Opened};
+use vd_passes::NameSet;
 use vd_trees::form_tests::{is_identifier_list, is_name};
 use vd_trees::{Design19, Form};
 

@@ -1,6 +1,6 @@
 use Rattle.std.proofs.Common.{arith, ap, sym, ◌∙◌}
 use Rattle.vd_forest.specs.Forest.{size}
-use Rattle.vd_lower.specs.Lowering.{names_in, tree_names}
+use Rattle.vd_passes.specs.Lowering.{names_in, tree_names}
 use Rattle.vd_lower.proofs.UnknownLemmas.{outside_later, outside_found, none_of}
 use Rattle.vd_lower.proofs.unknown.+outside.Goals as goal
 

@@ -1,6 +1,6 @@
 use Rattle.std.proofs.Common.{◌≡◌, ◌≤◌, ◌+◌, ◌*◌}
 use Rattle.vd_forest.specs.Forest.{size}
-use Rattle.vd_lower.specs.Lowering.{names_in}
+use Rattle.vd_passes.specs.Lowering.{names_in}
 use Rattle.vd_lower.specs.Unknown.{first_outside}
 use Rattle.vd_lower.proofs.unknown.+outside.Given as goal
 

@@ -1,0 +1,103 @@
+-- What the outcome with status 0 is, and when it is due.
+use Rattle.std.proofs.Common.{◌≡◌, ◌⊎◌, ℕ, List, Option, Some, None, IfSome, refl, sym, ap, ◌∙◌, subst, inl, inr}
+use Rattle.std.proofs.lemmas.Option.{IfSome_then}
+use Rattle.vd_trees.specs.declared.rows.Row.{Row}
+use Rattle.vd_bytes.specs.declared.channels.Channel.{Channel}
+use Rattle.vd_bytes.specs.Trays.{content_of, Rose}
+use Rattle.vd_lex.specs.Lexings.{plain_of}
+use Rattle.vd_lower.specs.Conversions.{Answer, refused, beyond, converted, design_text, map_rows, IsConverted, IsConversion}
+use Rattle.vd_lower.specs.Steps.{HasOneConversion}
+use Rattle.vd_lower.proofs.Faithful.{faithful}
+use Rattle.vd_command.specs.Words.{file_of}
+use Rattle.vd_command.specs.Outcomes.{Due, due_of, conversion, IsFileOutcome, IsWordsOutcome, IsOutcome}
+use Rattle.vd_command.specs.Endings.{GotAll, IsCompleted, IsReady}
+use Rattle.vd_command.specs.Headline.{GotConversion, HasNoFault, ConvertsFile, IsAcceptable, NamesAcceptable}
+use Rattle.vd_command.proofs.OneOutcome.{one_outcome}
+
+-- ---- status 0 is a conversion
+
+module _ {S : Type 0} (written : S → Channel → Option (List ℕ)) (old new : S) where
+  -- what is due for a conversion is what a conversion leaves
+  got_conversion : (content design : List ℕ) (rows : List Row) (units : ℕ) → IsConverted (plain_of 0 content) design rows units → GotAll written old new (conversion design rows units) → GotConversion written old new content
+  got_conversion content design rows units c got =
+      let same = subst (λ n. GotAll written old new (conversion design rows n)) c.units_are got in
+      record {
+        design = design;
+        rows = rows;
+        on_design = same.design;
+        on_map = same.map;
+        on_console = same.console;
+        faithful = faithful (plain_of 0 content) design rows units c;
+      }
+
+  answer_converts : (file content : List ℕ) (a : Answer) → IsConversion (plain_of 0 content) a → (due_of file a).status ≡ 0 → GotAll written old new (due_of file a) → GotConversion written old new content
+  answer_converts file content (refused x) is zero_status got = cc
+  answer_converts file content (beyond limit) is zero_status got = cc
+  answer_converts file content (converted design rows units) is zero_status got = got_conversion content design rows units is got
+
+  file_converts : (file content : List ℕ) (due : Due) → IsFileOutcome file content due → due.status ≡ 0 → GotAll written old new due → GotConversion written old new content
+  file_converts file content due (inl x) zero_status got = let e = ap (λ (d : Due). d.status) x.1 in cc
+  file_converts file content due (inr x) zero_status got =
+      answer_converts file content x.1 x.2 (sym (ap (λ (d : Due). d.status) x.3) ∙ zero_status) (subst (GotAll written old new) x.3 got)
+
+  words_convert : (words : List (List ℕ)) (files : List (List ℕ × List ℕ)) (named : Option (List ℕ)) → file_of words ≡ named → (due : Due) → IsWordsOutcome named files due → due.status ≡ 0 → GotAll written old new due → ConvertsFile written old new words files
+  words_convert words files None names due o zero_status got = let e = ap (λ (d : Due). d.status) o in cc
+  words_convert words files (Some file) names due o zero_status got =
+      record { file = file; names = names; conversion = file_converts file (content_of files file) due o zero_status got }
+
+  -- the outcome with status 0
+  pub outcome_converts : (words : List (List ℕ)) (files : List (List ℕ × List ℕ)) (due : Due) → IsOutcome words files due → due.status ≡ 0 → GotAll written old new due → ConvertsFile written old new words files
+  outcome_converts words files due o zero_status got = words_convert words files (file_of words) refl due o zero_status got
+
+  -- what completed says of status 0
+  pub completed_converts : (told : Option (List (List ℕ × List ℕ))) (words : List (List ℕ)) (status : ℕ)
+      → (due : Due) × (due.status ≡ status) × IfSome told (λ files. IsOutcome words files due) × GotAll written old new due
+      → status ≡ 0 → IfSome told (λ files. ConvertsFile written old new words files)
+  completed_converts told words status x zero_status =
+      IfSome_then told x.2 (λ files o. outcome_converts words files x.0 o (x.1 ∙ zero_status) x.3)
+
+-- ---- files that are accepted
+
+conversion_of : (content : List ℕ) (a : IsAcceptable content) → IsConverted (plain_of 0 content) (design_text a.file) (map_rows a.file) 2
+conversion_of content a =
+    record {
+      tokens = a.is_text.tokens;
+      has_tokens = record { tokens = a.is_text.is_list; few = a.few_tokens };
+      file = a.file;
+      read = record { is_file = a.is_text.is_file; tokens = a.is_text.tokens_are; conditions = a.is_text.conditions; shallow = a.shallow };
+      known = a.is_text.known;
+      design_is = refl;
+      rows_are = refl;
+      units_are = refl;
+    }
+
+outcome_of_acceptable : (words : List (List ℕ)) (files : List (List ℕ × List ℕ)) (n : NamesAcceptable words files) → IsOutcome words files (conversion (design_text n.acceptable.file) (map_rows n.acceptable.file) 2)
+outcome_of_acceptable words files n =
+    subst (λ o. IsWordsOutcome o files (conversion (design_text n.acceptable.file) (map_rows n.acceptable.file) 2)) (sym n.names)
+    (inr (n.acceptable.few_bytes, converted (design_text n.acceptable.file) (map_rows n.acceptable.file) 2, conversion_of (content_of files n.file) n.acceptable, refl))
+
+-- the outcome of an acceptable file has status 0
+pub acceptable_status : HasOneConversion → (words : List (List ℕ)) (files : List (List ℕ × List ℕ)) → NamesAcceptable words files → (due : Due) → IsOutcome words files due → due.status ≡ 0
+acceptable_status one words files n due o =
+    ap (λ (d : Due). d.status) (one_outcome one words files due _ o (outcome_of_acceptable words files n))
+
+pub completed_accepts : HasOneConversion → (told : Option (List (List ℕ × List ℕ))) (words : List (List ℕ)) (status : ℕ) (Got : Due → Type 0)
+    → (due : Due) × (due.status ≡ status) × IfSome told (λ files. IsOutcome words files due) × Got due
+    → IfSome told (λ files. NamesAcceptable words files → status ≡ 0)
+completed_accepts one told words status Got x =
+    IfSome_then told x.2 (λ files o n. sym x.1 ∙ acceptable_status one words files n x.0 o)
+
+-- ---- no fault
+
+-- the statuses that a file gives are among those of an outcome
+of_file : (n : ℕ) → (n ≡ 0) ⊎ ((n ≡ 1) ⊎ (n ≡ 6)) → IsCompleted n
+of_file n (inl z) = inl z
+of_file n (inr (inl z)) = inr (inl z)
+of_file n (inr (inr z)) = inr (inr (inr z))
+
+module _ {S : Type 0} (read_faults : S → List ℕ → ℕ) (write_faults : S → ℕ) (old mid new : S) (words : List (List ℕ)) (file : List ℕ) (told : Option (List (List ℕ × List ℕ))) (names : file_of words ≡ Some file) (read_counts : read_faults new file ≡ read_faults mid file) (write_count : write_faults mid ≡ write_faults old) where
+  -- where what is due was written, and no fault came, the outcome is reached
+  pub written_completes : (due : Due) → IsReady read_faults old mid told file due → (status : ℕ) → (status ≡ due.status) ⊎ (status ≡ 4) → (status ≡ 4 → Rose (write_faults mid) (write_faults new)) → HasNoFault read_faults write_faults old new words → IsCompleted status
+  written_completes due (IsReady.faulted rose e) status either four none = absurd (none.reading file names (subst (Rose (read_faults old file)) (sym read_counts) rose))
+  written_completes due (IsReady.formed s o) status (inl same) four none = subst IsCompleted (sym same) (of_file due.status s.status)
+  written_completes due (IsReady.formed s o) status (inr is_four) four none = absurd (none.writing (subst (λ n. Rose n (write_faults new)) write_count (four is_four)))
