@@ -1,0 +1,16 @@
+pub mod ClaimLemmas
+pub mod SameLemmas
+pub mod UniqueLemmas
+pub mod LinkLemmas
+pub mod WeightLemmas
+pub mod AdvanceLemmas
+pub mod ChoiceLemmas
+pub mod EndingLemmas
+pub mod ReadingLemmas
+pub mod DepthLemmas
+pub mod StackLemmas
+pub mod RankLemmas
+pub mod FollowLemmas
+pub mod SignLemmas
+pub mod ListLemmas
+pub mod DerivationLemmas

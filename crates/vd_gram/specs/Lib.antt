@@ -1,0 +1,10 @@
+pub mod Claims
+pub mod Derivations
+pub mod Runs
+pub mod Pending
+pub mod Readings
+pub mod Links
+pub mod Code
+pub mod Openings
+pub mod Laws
+pub mod Same

@@ -1,0 +1,24 @@
+//! Grammars given by tables: whether a table is fit for reading by one symbol, and reading by it.
+#![tactic(auto)]
+
+mod checking;
+mod choices;
+mod claims;
+pub mod derivation;
+pub mod laws;
+mod parsing;
+mod reading;
+mod stack;
+mod steps;
+pub mod tables;
+#[cfg(test)]
+mod test_tables;
+#[cfg(test)]
+mod tests;
+
+pub use checking::check;
+pub use derivation::{Cursor, Derivation, Opened};
+pub use parsing::parse;
+pub use tables::{
+    CheckedTable, Claim, Claims, END, ParseEnd, Production, Productions, Symbol, Symbols, Table,
+};

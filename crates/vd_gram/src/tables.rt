@@ -1,0 +1,79 @@
+//! Tables: the productions of a grammar, and what is claimed of its nonterminals.
+
+ghost use Rattle.std.specs.Prelude.{◌≡◌, IsTrue};
+ghost use Rattle.vd_gram.specs.Claims.{is_checked};
+
+use std::alloc::AllocError;
+
+/// A symbol of a grammar. A number below a table's `terminals` is a terminal, `END` is the end of
+/// a text, and any other is a nonterminal.
+pub type Symbol = u16;
+
+/// Some symbols.
+pub type Symbols = &'static [Symbol];
+
+/// The symbol behind the last one of a text.
+pub const END: Symbol = 65535;
+
+/// What a nonterminal may become.
+#[derive(Clone, Copy, Drop)]
+pub struct Production {
+    pub left: Symbol,
+    pub right: Symbols,
+}
+
+/// Some productions, each with its place as its number.
+pub type Productions = &'static [Production];
+
+/// What is claimed of a nonterminal: whether it can become the empty text, the symbols that its
+/// texts can begin with, the symbols that can stand behind it, and a rank that shows that it has a
+/// text and doesn't begin with itself.
+#[derive(Clone, Copy, Drop)]
+pub struct Claim {
+    pub symbol: Symbol,
+    pub empty: bool,
+    pub first: Symbols,
+    pub follow: Symbols,
+    pub rank: u32,
+}
+
+/// Some claims.
+pub type Claims = &'static [Claim];
+
+/// A grammar with claims on its nonterminals. `marked` are the nonterminals whose nodes count for
+/// the depth.
+#[derive(Clone, Copy, Drop)]
+pub struct Table {
+    pub terminals: Symbol,
+    pub start: Symbol,
+    pub marked: Symbols,
+    pub productions: Productions,
+    pub claims: Claims,
+}
+
+/// A table whose claims hold together, so that one symbol tells which production comes next. Only
+/// `check` makes one.
+#[derive(Drop)]
+pub struct CheckedTable {
+    pub(crate) table: Table,
+    ghost checked: { IsTrue (is_checked table) },
+}
+
+/// Why a text has no derivation: no text goes on with the symbol at a place, the end being one; too
+/// many marked nodes stand above one another before such a place; or memory ran out.
+#[derive(Clone, Copy, Debug, PartialEq, Eq, Drop)]
+pub enum ParseEnd {
+    At(usize),
+    TooDeep,
+    Memory,
+}
+
+impl From<AllocError> for ParseEnd {
+    ghost use Rattle.vd_gram.specs.declared.tables.ParseEnd.TheVariants.{Memory};
+
+    ghost from_gives = { λ _ end. end ≡ Memory };
+
+    fn from(_: AllocError) -> Self {
+        ParseEnd::Memory
+    }
+}
