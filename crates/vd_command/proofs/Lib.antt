@@ -1,4 +1,5 @@
 pub mod EndingLemmas
+pub mod EqualRuns
 pub mod HeadlineLemmas
 pub mod OneOutcome
 pub mod ReadyLemmas

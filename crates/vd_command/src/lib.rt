@@ -2,8 +2,12 @@
 #![tactic(auto)]
 
 pub mod console;
+pub mod laws;
 mod ready;
 pub mod top;
 pub mod words;
 
+pub use laws::runs_are_equal;
 pub use top::{one_outcome, vdown};
+pub use vd_runs::{Run19, Run93, Top, elaborate19, elaborate93, top19, top93};
+pub use vd_tracing::{Traced, run19, run93};

@@ -1,6 +1,7 @@
 -- A file's tree, the one with lists and the written one have the same run, for every top.
 use Rattle.std.proofs.Common.{◌≡◌, ◌<◌, ℕ, Bool, true, false, List, [], ◌∷◌, map, length, refl, sym, ap, ◌∙◌, subst, arith, inl, inr, Some}
 use Rattle.std.proofs.lemmas.List.{length-map}
+use Rattle.std.proofs.lemmas.List.Elements.{length_all_zip}
 use Rattle.std.proofs.lemmas.Option.{slice_get_cases, slice_get_within}
 use Rattle.std.specs.Prelude.{Contains}
 use Rattle.std.specs.List.{AllByRecursion, AllZip, flat_map}
@@ -28,15 +29,18 @@ use Rattle.vd_elaboration.specs.Tops.{both_units}
 use Rattle.vd_elaboration.specs.Ports.{Port, declared_ports}
 use Rattle.vd_elaboration.specs.Processes.{Process}
 use Rattle.vd_elaboration.specs.Signals.{ScalarSignal, port_signal}
-use Rattle.vd_elaboration.specs.Elaboration.{driven_names, scopes_of, Elaborated, port_names, model_of, elaborated_units, elaborated_if}
+use Rattle.vd_elaboration.specs.Elaboration.{processes_from, driven_names, scopes_of, Elaborated, port_names, model_of, elaborated_units, elaborated_if}
 use Rattle.vd_elaboration.specs.Traces.{declared_in}
-use Rattle.vd_correspondence.specs.Laws.{IsFile19, LoweringKeepsRun, FlavourKeepsRun, WritingKeepsRun}
+use Rattle.vd_correspondence.specs.Laws.{IsFile19, LoweringKeepsRun, FlavourKeepsRun, WritingKeepsRun, WritingKeepsTraces}
+use Rattle.vd_correspondence.specs.Relations.{SameProcess}
+use Rattle.vd_correspondence.specs.SameTraces.{ShowSame, ShowSameFor}
 use Rattle.vd_correspondence.specs.WholeMaps.{Joined}
+use Rattle.vd_correspondence.proofs.EqualTraces.{trace_equal}
 use Rattle.vd_correspondence.specs.SameRuns.{IsSameRun, IsSameRunFor, HaveOnePath, IsSameByPath, IsSameByPathFor}
 use Rattle.vd_correspondence.proofs.WholeMapLemmas.{HaveOwnNames, row_of, bare_level, element_mapped, element_there, joined_same, number_there}
 use Rattle.vd_correspondence.proofs.NameLemmas.{own_names}
 use Rattle.vd_correspondence.proofs.KnownLemmas.{number_known}
-use Rattle.vd_correspondence.proofs.ProcessLemmas.{source_processes, listed_processes, written_processes, names_listed_alike, names_written_alike, scopes_listed, scopes_written}
+use Rattle.vd_correspondence.proofs.ProcessLemmas.{source_processes, listed_processes, written_processes, names_listed_alike, names_written_alike, processes_listed, processes_written, scopes_listed, scopes_written}
 use Rattle.vd_correspondence.proofs.SameRunLemmas.{IsKnown, inputs_same, listed_run, written_run}
 use Rattle.vd_correspondence.proofs.FileLemmas.{port_shapes, ports_in, ports_lowered, ports_kept, rows_are, names_are, source_units, lowered_units, written_units, unit_if, has_entity, has_architecture}
 
@@ -203,6 +207,30 @@ module _ (f : File) (is : IsFile19 f) where
       (with_rows (source_processes f.processes) (scopes_listed scope f.processes ∙ scopes_written scope f.processes) (names_listed_alike f.processes ∙ names_written_alike f.processes)
       (run_behind f.entity.text f.architecture.text ports own source _ _ listed_by_path written_by_rows))
 
+  -- ---- what both show
+
+  processes_long : (qs : List Process) → AllZip SameProcess (processes_from 0 (listed_processes f.processes)) qs → length (processes_from 0 (source_processes f.processes)) ≡ length qs
+  processes_long qs z =
+      length_all_zip SameProcess _ _ (processes_listed f.processes 0 0 refl) ∙ length_all_zip SameProcess _ _ z
+
+  written_units_show : ShowSame (elaborated_from ports (source_processes f.processes)) (elaborated_from (declared_ports (erased (single_ports (lowered (port_shapes f))))) (written_processes f.processes))
+  written_units_show =
+      let all = scopes_listed scope f.processes ∙ scopes_written scope f.processes in
+      let left = elaborated_from ports (source_processes f.processes) in
+      let right = elaborated_from ports (written_processes f.processes) in
+      let there = number_there f.entity.text f.architecture.text ports own in
+      let one = joined_same f.entity.text f.architecture.text ports own in
+      let run = with_rows (source_processes f.processes) all (names_listed_alike f.processes ∙ names_written_alike f.processes) (run_behind f.entity.text f.architecture.text ports own source _ _ listed_by_path written_by_rows) in
+      let here = subst (λ rs. SameRunAtInputs (Joined rs (signals_of ports) (signals_of ports)) (model_of ports (source_processes f.processes)) (model_of ports (written_processes f.processes))) (rows_are f) run.run in
+      subst (λ qs. ShowSame left (elaborated_from qs (written_processes f.processes))) (sym (ports_kept f))
+      (record {
+        signals = refl;
+        scopes = all;
+        processes = processes_long (processes_from 0 (written_processes f.processes)) (processes_written f.processes 0 0 refl);
+        traces = λ given cycles.
+            trace_equal by_rows left right refl all there one _ _ (here.traces given given (λ i j x input. ap given (one i j x)) cycles);
+      })
+
 -- ---- every top
 
 lowered_if : (f : File) → IsFile19 f → (b c : Bool) → IsSameByPathFor (elaborated_if (both_units (unit_if b (source_units f).entity) (unit_if c (source_units f).architecture))) (elaborated_if (both_units (unit_if b (lowered_units f).entity) (unit_if c (lowered_units f).architecture)))
@@ -223,6 +251,12 @@ written_if f is true false = tt
 written_if f is false true = tt
 written_if f is false false = tt
 
+shown_if : (f : File) → IsFile19 f → (b c : Bool) → ShowSameFor (elaborated_if (both_units (unit_if b (source_units f).entity) (unit_if c (source_units f).architecture))) (elaborated_if (both_units (unit_if b (written_units f).entity) (unit_if c (written_units f).architecture)))
+shown_if f is true true = written_units_show f is
+shown_if f is true false = tt
+shown_if f is false true = tt
+shown_if f is false false = tt
+
 pub lowering_keeps_run : LoweringKeepsRun
 lowering_keeps_run f is = record { for_each = λ top. lowered_if f is (has_entity f top) (has_architecture f top) }
 
@@ -231,3 +265,6 @@ flavour_keeps_run f is = record { for_each = λ top. flavoured_if f is (has_enti
 
 pub writing_keeps_run : WritingKeepsRun
 writing_keeps_run f is = record { for_each = λ top. written_if f is (has_entity f top) (has_architecture f top) }
+
+pub writing_keeps_traces : WritingKeepsTraces
+writing_keeps_traces f is = record { for_each = λ top. shown_if f is (has_entity f top) (has_architecture f top) }

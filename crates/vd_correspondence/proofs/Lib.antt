@@ -1,3 +1,4 @@
+pub mod EqualTraces
 pub mod FileLemmas
 pub mod FileRunLemmas
 pub mod KnownLemmas

@@ -15,6 +15,7 @@ use Rattle.vd_elaboration.specs.Processes.{names_assigned, names_listed}
 use Rattle.vd_elaboration.specs.Interfaces.{interface_of}
 use Rattle.vd_correspondence.specs.WholeMaps.{IsWholeMap, HasTops}
 use Rattle.vd_correspondence.specs.SameRuns.{HaveSameRun, AreSameByPath}
+use Rattle.vd_correspondence.specs.SameTraces.{TreesShowSame}
 
 -- a 2019 file in which nothing is refused
 pub record IsFile19 (f : File) : Type 0 where
@@ -40,6 +41,10 @@ FlavourKeepsRun = (f : File) → IsFile19 f → HaveSameRun (design_rows (file_s
 -- so the written tree has the run of the file
 abbrev pub WritingKeepsRun : Type 0
 WritingKeepsRun = (f : File) → IsFile19 f → HaveSameRun (design_rows (file_shape f)) (file_shape f) (flavoured (lowered (file_shape f)))
+
+-- and what a run prints of the one is what it prints of the other
+abbrev pub WritingKeepsTraces : Type 0
+WritingKeepsTraces = (f : File) → IsFile19 f → TreesShowSame (file_shape f) (flavoured (lowered (file_shape f)))
 
 -- ---- what can be seen without a run
 

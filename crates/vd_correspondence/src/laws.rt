@@ -1,6 +1,6 @@
 //! Laws of the passes, each as the contract of a function that does nothing.
 
-ghost use Rattle.vd_correspondence.specs.Laws.{ListsAreReadSets, LoweringKeepsRun, FlavourKeepsRun, WritingKeepsRun, MapsAreWhole, InterfacesAreKept, FilesHaveTops};
+ghost use Rattle.vd_correspondence.specs.Laws.{ListsAreReadSets, LoweringKeepsRun, FlavourKeepsRun, WritingKeepsRun, WritingKeepsTraces, MapsAreWhole, InterfacesAreKept, FilesHaveTops};
 ghost use Rattle.vd_correspondence.specs.SameTraces.{RunsGiveTraces};
 
 /// The list that is written for `process (all)` is the read set of its statements.
@@ -21,6 +21,11 @@ pub fn flavour_keeps_run()
 /// What is written for a file has its run, through the map. It is the two laws above, one after the other.
 pub fn writing_keeps_run()
     ensures { WritingKeepsRun }
+{}
+
+/// A run of what is written for a file prints what a run of the file prints.
+pub fn writing_keeps_traces()
+    ensures { WritingKeepsTraces }
 {}
 
 /// The map of each file is whole for every top.

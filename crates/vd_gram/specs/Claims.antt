@@ -82,9 +82,13 @@ signs_of t p = firsts_of t p.right.now ++ (if can_all_be_empty t p.right.now the
 abbrev pub is_claimed : Table → ℕ → Bool
 is_claimed t s = is_nonterminal t s && nat_eq (count_by (λ c. nat_eq c.symbol s) t.claims.now) 1
 
--- a symbol of a right side
+-- a terminal, or a nonterminal with one claim
 abbrev pub is_known : Table → ℕ → Bool
 is_known t s = is_terminal t s || is_claimed t s
+
+-- the same of a symbol of a follow set, where the end may stand too
+abbrev pub is_known_or_end : Table → ℕ → Bool
+is_known_or_end t s = is_known t s || nat_eq s end_symbol
 
 -- what can stand behind a symbol with the symbols `ss` behind it, where `after` can stand behind all of them
 abbrev pub follow_is_closed : Table → List ℕ → ℕ → List ℕ → Bool
@@ -111,20 +115,22 @@ sets_are_closed t p =
 abbrev pub is_closed_under : Table → Production → Bool
 is_closed_under t p = names_are_claimed t p && sets_are_closed t p
 
--- the end stands in no first set
-abbrev pub is_free_of_end : Claim → Bool
-is_free_of_end c = not (nat_eq c.symbol end_symbol) && not (has c.first.now end_symbol)
-
 -- a text can end behind the start
 abbrev pub start_is_claimed : Table → Bool
 start_is_claimed t = is_claimed t t.start && has (follow_of t t.start) end_symbol
 
--- the end is no terminal, and stands in follow sets alone
-abbrev pub is_free_of_ends : Table → Bool
-is_free_of_ends t = not (is_terminal t end_symbol) && list_all is_free_of_end t.claims.now && not (has t.marked.now end_symbol)
+-- a claim is the only one on its nonterminal, and each nonterminal in its sets has one claim too
+abbrev pub claim_is_known : Table → Claim → Bool
+claim_is_known t c = is_claimed t c.symbol && list_all (is_known t) c.first.now && list_all (is_known_or_end t) c.follow.now
 
+-- the nonterminals of the claims and the marked ones have one claim each. The end is no terminal, so that it stands in follow
+-- sets alone
+abbrev pub other_names_are_claimed : Table → Bool
+other_names_are_claimed t = not (is_terminal t end_symbol) && list_all (claim_is_known t) t.claims.now && list_all (is_known t) t.marked.now
+
+-- each nonterminal of the table has one claim, wherever it stands, and what is claimed covers the productions
 abbrev pub claims_are_closed : Table → Bool
-claims_are_closed t = start_is_claimed t && list_all (is_closed_under t) t.productions.now && is_free_of_ends t
+claims_are_closed t = start_is_claimed t && list_all (is_closed_under t) t.productions.now && other_names_are_claimed t
 
 -- ---- the ranks show what they claim
 

@@ -2,7 +2,7 @@
 
 ghost use Rattle.std.specs.Prelude.{◌≡◌, IsTrue, IfOk, IfErr};
 ghost use Rattle.std.specs.List.{list_all};
-ghost use Rattle.vd_gram.specs.Claims.{has, is_within, is_apart, firsts_of, first_of, signs_of, is_claimed, is_known, claim_of, first_claim, follow_is_closed, follows_are_closed, sets_are_closed, is_closed_under, is_free_of_end, is_free_of_ends, start_is_claimed, claims_are_closed, is_not_left_recursive, has_text, fronts_are_lower, is_shown, rank_shows, has_empty, ranks_show, are_told_apart, all_told_apart, is_checked};
+ghost use Rattle.vd_gram.specs.Claims.{has, is_within, is_apart, firsts_of, first_of, signs_of, is_claimed, is_known, is_known_or_end, claim_of, first_claim, follow_is_closed, follows_are_closed, sets_are_closed, is_closed_under, claim_is_known, other_names_are_claimed, start_is_claimed, claims_are_closed, is_not_left_recursive, has_text, fronts_are_lower, is_shown, rank_shows, has_empty, ranks_show, are_told_apart, all_told_apart, is_checked};
 
 use crate::claims::{
     can_all_be_empty, can_be_empty, can_begin, claim_of, follow_of, has, has_lower_rank,
@@ -94,6 +94,15 @@ fn are_known(table: &Table, symbols: &[Symbol]) -> bool
     symbols.iter().all(|symbol| is_known(table, *symbol))
 }
 
+/// Whether each symbol of a follow set has one claim, but for the terminals and the end.
+fn are_known_or_end(table: &Table, symbols: &[Symbol]) -> bool
+    ensures { result ≡ list_all (is_known_or_end table.now) symbols.now }
+{
+    symbols
+        .iter()
+        .all(|symbol| is_known(table, *symbol) || *symbol == END)
+}
+
 /// Whether what is claimed of a production's left covers its right.
 fn sets_are_closed(table: &Table, production: &Production) -> bool
     ensures { result ≡ sets_are_closed table.now production.now }
@@ -124,23 +133,29 @@ fn firsts_begin(table: &Table, production: &Production) -> bool
     }
 }
 
-/// Whether the end stands in no first set, and has no claim.
-fn is_free_of_end(claim: &Claim) -> bool
-    ensures { result ≡ is_free_of_end claim.now }
+/// Whether a claim is the only one on its nonterminal, and each nonterminal in its sets has one too.
+fn claim_is_known(table: &Table, claim: &Claim) -> bool
+    ensures { result ≡ claim_is_known table.now claim.now }
 {
-    claim.symbol != END && !has(claim.first, END)
+    is_claimed(table, claim.symbol)
+        && are_known(table, claim.first)
+        && are_known_or_end(table, claim.follow)
 }
 
-fn are_free_of_end(claims: &[Claim]) -> bool
-    ensures { result ≡ list_all is_free_of_end claims.now }
+fn claims_are_known(table: &Table) -> bool
+    ensures { result ≡ list_all (claim_is_known table.now) table.now.claims.now }
 {
-    claims.iter().all(|claim| is_free_of_end(claim))
+    table
+        .claims
+        .iter()
+        .all(|claim| claim_is_known(table, claim))
 }
 
-fn is_free_of_ends(table: &Table) -> bool
-    ensures { result ≡ is_free_of_ends table.now }
+/// Whether the nonterminals of the claims and the marked ones have one claim each.
+fn other_names_are_claimed(table: &Table) -> bool
+    ensures { result ≡ other_names_are_claimed table.now }
 {
-    !is_terminal(table, END) && are_free_of_end(table.claims) && !has(table.marked, END)
+    !is_terminal(table, END) && claims_are_known(table) && are_known(table, table.marked)
 }
 
 fn productions_are_closed(table: &Table) -> bool
@@ -161,7 +176,7 @@ fn start_is_claimed(table: &Table) -> bool
 fn claims_are_closed(table: &Table) -> bool
     ensures { result ≡ claims_are_closed table.now }
 {
-    start_is_claimed(table) && productions_are_closed(table) && is_free_of_ends(table)
+    start_is_claimed(table) && productions_are_closed(table) && other_names_are_claimed(table)
 }
 
 /// Whether each nonterminal in front of which only empty symbols can stand has a lower rank.

@@ -32,7 +32,8 @@ fn start(
 }
 
 /// The derivation of a text by a table. `At` and `TooDeep` say why it has none, and want of memory
-/// says nothing of the text. It takes time in proportion to the text.
+/// says nothing of the text. No clause speaks of the time that it takes: it was measured, and grows
+/// in proportion to the text.
 #[tactic(auto, using(crate::proofs::AdvanceLemmas::parse_read))]
 pub fn parse(
     alloc: Global,

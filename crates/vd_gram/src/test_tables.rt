@@ -153,6 +153,27 @@ pub(crate) const NO_CLAIM: Table = list_table!(LIST, &[ITEMS_CLAIM]);
 
 pub(crate) const TWO_CLAIMS: Table = list_table!(LIST, &[ITEMS_CLAIM, REST_CLAIM, REST_CLAIM]);
 
+// Nothing is claimed of a nonterminal that is marked, or stands in a first or a follow set.
+const OTHER: Symbol = 5;
+
+pub(crate) const NO_CLAIM_ON_MARKED: Table = Table {
+    terminals: 3,
+    start: ITEMS,
+    marked: &[ITEMS, OTHER],
+    productions: LIST,
+    claims: &[ITEMS_CLAIM, REST_CLAIM],
+};
+
+pub(crate) const NO_CLAIM_ON_FIRST: Table = list_table!(
+    LIST,
+    &[ITEMS_CLAIM, claim!(REST, true, &[B, OTHER], &[A, END], 0)]
+);
+
+pub(crate) const NO_CLAIM_ON_FOLLOW: Table = list_table!(
+    LIST,
+    &[ITEMS_CLAIM, claim!(REST, true, &[B], &[A, END, OTHER], 0)]
+);
+
 // The list begins with itself.
 pub(crate) const LEFT_RECURSION: Table = list_table!(
     &[production!(ITEMS, &[ITEMS, A]), production!(ITEMS, &[B])],

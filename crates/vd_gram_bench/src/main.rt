@@ -5,9 +5,10 @@
 mod arithmetic;
 
 use crate::arithmetic::{CLOSE, NUMBER, OPEN, PLUS, arithmetic};
+use anyhow::bail;
 use std::alloc::{AllocError, Global};
 use std::env;
-use vd_gram::{Cursor, Opened, ParseEnd, Symbol, check, parse};
+use vd_gram::{CheckedTable, Cursor, Opened, ParseEnd, Symbol, check, parse};
 
 /// The symbols of a sum of numbers.
 fn list(alloc: Global, count: u32) -> Result<Vec<Symbol>, AllocError> {
@@ -63,17 +64,19 @@ fn way_down(trees: &Cursor<'_>, by_last: bool) -> u32 {
     u32::MAX
 }
 
-/// What is printed of an answer of `parse`.
-fn answer(alloc: Global, kind: &str, count: u32) -> Result<(u32, u32), ParseEnd> {
+/// How many nodes stand above one another in a derivation, down by first parts and by last ones.
+fn answer(
+    alloc: Global,
+    table: &CheckedTable,
+    kind: &str,
+    count: u32,
+) -> Result<(u32, u32), ParseEnd> {
     let symbols = if kind == "list" {
         list(alloc, count)?
     } else {
         nested(alloc, count)?
     };
-    let Ok(table) = check(arithmetic()) else {
-        return Err(ParseEnd::TooDeep);
-    };
-    let derivation = parse(alloc, &table, &symbols, u32::MAX)?;
+    let derivation = parse(alloc, table, &symbols, u32::MAX)?;
     let trees = derivation.cursor();
     Ok((way_down(&trees, false), way_down(&trees, true)))
 }
@@ -88,7 +91,10 @@ fn main(rt: HostRuntime) -> anyhow::Result<()> {
         None => 1000,
         Some(word) => word.parse::<u32>().unwrap_or(1000),
     };
-    match answer(rt.alloc(), kind, count) {
+    let Ok(table) = check(arithmetic()) else {
+        bail!("the claims of the table don't hold together");
+    };
+    match answer(rt.alloc(), &table, kind, count) {
         Ok((first, last)) => println!(rt;
             "{kind} {count}: {first} nodes down by first parts, {last} by last parts"
         )?,

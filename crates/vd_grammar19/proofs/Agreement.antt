@@ -4,13 +4,17 @@ use Rattle.std.specs.Prelude.{if◌then◌else◌, ◌&&◌}
 use Rattle.std.proofs.lemmas.Bool.{le-ltb}
 use Rattle.std.proofs.Math.Bool.{and-true}
 use Rattle.std.proofs.lemmas.List.{length-append}
-use Rattle.vd_forest.specs.Forest.{nothing}
+use Rattle.std.specs.Str.{bytes_eq}
+use Rattle.vd_forest.specs.Forest.{Forest, nothing}
+use Rattle.vd_trees.specs.declared.form.Form.{Form}
+use Rattle.vd_trees.specs.declared.revision.Revision.{Revision}
+use Rattle.vd_trees.specs.declared.revision.Revision.TheVariants.{V2019, V1993}
 use Rattle.vd_lex.specs.declared.tokens.Token.{Token}
-use Rattle.vd_lex.specs.declared.tokens.TheConstants.{CLOSING, COMMA, COLON, SEMICOLON}
-use Rattle.vd_grammar19.specs.Symbols.{Symbol, mark, named}
+use Rattle.vd_lex.specs.declared.tokens.TheConstants.{ALL, BEGIN, IS, CLOSING, COMMA, COLON, SEMICOLON}
+use Rattle.vd_grammar19.specs.Symbols.{Symbol, word, mark, named}
 use Rattle.vd_grammar19.specs.Derivations.{std_ulogic, port_tokens}
-use Rattle.vd_grammar19.specs.Reader.{is, is_name, is_mode, is_name_outside, Outcome, got, stuck, deep, ◌>>=◌, token_at, spelled_at, begins, repeated_at, NamesRead, with_name, further_name_at, names_at, Known, with_port, PortsRead, port_at, further_port_at, ports_at}
-use Rattle.vd_grammar19.proofs.Machine.{Item, fixed, fixed_all, port_name, next_port_name, names_end, mode, ports_end, port_items, opened, depth, Memory, remember, meets, scan}
+use Rattle.vd_grammar19.specs.Reader.{is, is_name, is_mode, is_name_outside, is_same_name, Outcome, got, stuck, deep, ◌>>=◌, token_at, spelled_at, begins, optional_at, repeated_at, NamesRead, with_name, further_name_at, names_at, Known, with_port, PortsRead, port_at, further_port_at, ports_at, name_tree, further_listed_at, listed_at, every_at, sensitivity_at}
+use Rattle.vd_grammar19.proofs.Machine.{Item, fixed, fixed_all, port_name, next_port_name, names_end, mode, ports_end, port_items, unit_end, listed_name, listed_end, process_begin, sensitivity_items, begin_item, closing_item, opened, depth, Memory, remember, unit_name, meets, scan}
 use Rattle.vd_grammar19.proofs.Steps.{bind_assoc, bind_same, got_bind, got_weaker, Shortens, token_shorter, repeated_agrees}
 use Rattle.vd_grammar19.proofs.SoundPorts.{port_sound}
 
@@ -75,7 +79,7 @@ token_passes test t ts passes = rw (token_at, passes) refl
 
 -- what is remembered behind some names of a port
 abbrev pub names_memory : Memory → NamesRead → Memory
-names_memory m s = record { entity = m.entity; known = record m.known { taken = s.taken }; texts = s.texts }
+names_memory m s = record m { known = record m.known { taken = s.taken }; texts = s.texts }
 
 pub further_name_shorter : Shortens further_name_at
 unfolding further_name_at
@@ -112,7 +116,7 @@ module _ (limit : ℕ) (m : Memory) (is' : List Item) where
 
 -- what is remembered behind a port
 abbrev pub known_memory : Memory → Known → Memory
-known_memory m k = record { entity = m.entity; known = k; texts = [] }
+known_memory m k = record m { known = k; texts = [] }
 
 pub tail_fits : (front rest ts : List Token) → front ++ rest ≡ ts → length rest ≤ length ts
 tail_fits front rest ts same = omega (arith, ap length same, length-append front rest)
@@ -161,3 +165,69 @@ module _ (limit : ℕ) (m : Memory) (is' : List Item) where
       ∙ bind_same (port_at start ts) _ _ (λ x.
       repeated_agrees (is (mark SEMICOLON)) further_port_at further_port_shorter (λ s ts. scan limit (known_memory m s.known) (ports_end ∷ is') ts) (λ x. scan limit (known_memory m x.0.known) (fixed 0 (mark CLOSING) ∷ is') x.1) (ports_stop limit m is') ports_go x.0 x.1)
       ∙ sym (bind_assoc (port_at start ts) _ _)
+
+-- ---- what only one revision has
+
+pub further_listed_shorter : (outs : List (List ℕ)) → Shortens (further_listed_at outs)
+unfolding further_listed_at
+further_listed_shorter outs made ts =
+    got_bind (token_at (is (mark COMMA)) ts) _ _ _ (token_shorter (is (mark COMMA)) ts) (λ x first.
+    got_bind (token_at (is_name_outside outs) x.1) _ _ _ (token_shorter (is_name_outside outs) x.1) (λ y second. omega arith))
+
+module _ (limit : ℕ) (m : Memory) (enough : 1 ≤ limit) (is' : List Item) where
+  one_fits : ltb limit 1 ≡ false
+  one_fits = le-ltb limit 1 enough
+
+  listed_stop : (made : Forest Form) (ts : List Token) → begins (is (mark COMMA)) ts ≡ false → scan limit m (listed_end ∷ is') ts ≡ scan limit m (fixed 1 (mark CLOSING) ∷ is') ts
+  unfolding scan
+  listed_stop made [] h = refl
+  listed_stop made (t ∷ ts) h = scan_like limit m listed_end (fixed 1 (mark CLOSING)) is' t ts (rw h refl) refl refl refl
+
+  listed_go : (made : Forest Form) (ts : List Token) → begins (is (mark COMMA)) ts ≡ true → scan limit m (listed_end ∷ is') ts ≡ (further_listed_at m.known.outs made ts >>= λ x. scan limit m (listed_end ∷ is') x.1)
+  unfolding further_listed_at
+  listed_go made [] h = absurd cc
+  listed_go made (t ∷ ts) h =
+      scan_opens limit m listed_end is' t ts (listed_name ∷ listed_end ∷ []) (rw h refl) one_fits refl refl
+      ∙ scan_one limit m listed_name (listed_end ∷ is') is_name (is_name_outside m.known.outs) (λ u. refl) (λ u. one_fits) (λ u. refl) ts
+      ∙ rw (token_passes (is (mark COMMA)) t ts h) (sym (bind_assoc (token_at (is_name_outside m.known.outs) ts) _ _))
+
+  scan_listed : (ts : List Token) → scan limit m (listed_name ∷ listed_end ∷ is') ts ≡ (listed_at m.known.outs ts >>= λ x. scan limit m (fixed 1 (mark CLOSING) ∷ is') x.1)
+  unfolding listed_at
+  scan_listed ts =
+      scan_one limit m listed_name (listed_end ∷ is') is_name (is_name_outside m.known.outs) (λ u. refl) (λ u. one_fits) (λ u. refl) ts
+      ∙ bind_same (token_at (is_name_outside m.known.outs) ts) _ _ (λ x.
+      repeated_agrees (is (mark COMMA)) (further_listed_at m.known.outs) (further_listed_shorter m.known.outs) (λ made ts. scan limit m (listed_end ∷ is') ts) (λ x. scan limit m (fixed 1 (mark CLOSING) ∷ is') x.1) listed_stop listed_go (name_tree x.0) x.1)
+      ∙ sym (bind_assoc (token_at (is_name_outside m.known.outs) ts) _ _)
+
+  pub scan_sensitivity : (r : Revision) (ts : List Token) → scan limit m (sensitivity_items r ++ is') ts ≡ (sensitivity_at r m.known.outs ts >>= λ x. scan limit m (fixed 1 (mark CLOSING) ∷ is') x.1)
+  unfolding sensitivity_at every_at
+  scan_sensitivity V2019 ts = scan_fixed limit m 1 (word ALL) (fixed 1 (mark CLOSING) ∷ is') ts enough ∙ sym (bind_assoc (token_at (is (word ALL)) ts) _ _)
+  scan_sensitivity V1993 ts = scan_listed ts
+
+  begin_by : (t : Token) (ts : List Token) (b : Bool) → is (word IS) t ≡ b → scan limit m (process_begin ∷ is') (t ∷ ts) ≡ (optional_at V1993 (is (word IS)) (is (word IS)) (t ∷ ts) >>= λ x. scan limit m (fixed 1 (word BEGIN) ∷ is') x.1)
+  unfolding optional_at token_at
+  begin_by t ts true h = scan_opens limit m process_begin is' t ts (fixed 1 (word BEGIN) ∷ []) (rw h refl) one_fits refl refl ∙ rw h refl
+  begin_by t ts false h = scan_like limit m process_begin (fixed 1 (word BEGIN)) is' t ts (rw h refl) refl refl refl ∙ rw h refl
+
+  pub scan_begin : (r : Revision) (ts : List Token) → scan limit m (begin_item r ∷ is') ts ≡ (optional_at r (is (word IS)) (is (word IS)) ts >>= λ x. scan limit m (fixed 1 (word BEGIN) ∷ is') x.1)
+  unfolding optional_at scan
+  scan_begin V2019 ts = refl
+  scan_begin V1993 [] = refl
+  scan_begin V1993 (t ∷ ts) = begin_by t ts (is (word IS) t) refl
+
+module _ (limit : ℕ) (m : Memory) (is' : List Item) (w : Bool) where
+  zero_fits : ltb limit 0 ≡ false
+  zero_fits = le-ltb limit 0 (omega arith)
+
+  closing_by : (t : Token) (ts : List Token) (n same : Bool) → is_name t ≡ n → bytes_eq t.text (unit_name m w) ≡ same
+      → scan limit m (unit_end w ∷ is') (t ∷ ts) ≡ (optional_at V1993 is_name (is_same_name (unit_name m w)) (t ∷ ts) >>= λ x. scan limit m (fixed 0 (mark SEMICOLON) ∷ is') x.1)
+  unfolding scan optional_at token_at
+  closing_by t ts true true n e = rw (scan, n, zero_fits, n, e) refl
+  closing_by t ts true false n e = rw (scan, n, zero_fits, n, e) refl
+  closing_by t ts false same n e = scan_like limit m (unit_end w) (fixed 0 (mark SEMICOLON)) is' t ts (rw n refl) refl (rw n refl) refl ∙ rw n refl
+
+  pub scan_closing : (r : Revision) (ts : List Token) → scan limit m (closing_item r w ∷ is') ts ≡ (optional_at r is_name (is_same_name (unit_name m w)) ts >>= λ x. scan limit m (fixed 0 (mark SEMICOLON) ∷ is') x.1)
+  unfolding optional_at scan
+  scan_closing V2019 ts = refl
+  scan_closing V1993 [] = refl
+  scan_closing V1993 (t ∷ ts) = closing_by t ts (is_name t) (bytes_eq t.text (unit_name m w)) refl refl

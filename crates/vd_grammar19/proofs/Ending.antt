@@ -1,13 +1,15 @@
 -- The end of the file opens the last item and no other, so it is read last.
 use Rattle.std.proofs.Common.{◌≡◌, ℕ, ◌+◌, Bool, true, false, cond, List, [], ◌∷◌, ◌++◌, Option, Some, None, refl, sym, ap, ◌∙◌, subst, append_assoc}
 use Rattle.std.specs.List.{AllByRecursion}
+use Rattle.vd_trees.specs.declared.revision.Revision.{Revision}
+use Rattle.vd_trees.specs.declared.revision.Revision.TheVariants.{V2019, V1993}
 use Rattle.vd_lex.specs.declared.tokens.Kind.TheVariants.{End}
 use Rattle.vd_lex.specs.declared.tokens.Token.{Token}
-use Rattle.vd_lex.specs.declared.tokens.TheConstants.{CLOSING}
+use Rattle.vd_lex.specs.declared.tokens.TheConstants.{BEGIN, CLOSING, SEMICOLON}
 use Rattle.vd_grammar19.specs.Symbols.{word, mark, named, ending}
 use Rattle.vd_lex.specs.Lexings.{EndsOnce}
 use Rattle.vd_grammar19.specs.Reader.{is}
-use Rattle.vd_grammar19.proofs.Machine.{Item, fixed, entity_name, port_name, next_port_name, names_end, mode, ports_end, architecture_name, entity_again, processes_end, process_items, port_items, target, operand, expression_end, file_items, opened, Memory, remember}
+use Rattle.vd_grammar19.proofs.Machine.{Item, fixed, entity_name, port_name, next_port_name, names_end, mode, ports_end, unit_end, architecture_name, entity_again, processes_end, listed_name, listed_end, process_begin, process_items, port_items, target, operand, expression_end, file_items, opened, Memory, remember}
 use Rattle.vd_grammar19.proofs.SoundExpressions.{is_so}
 use Rattle.vd_grammar19.proofs.Passing.{Passes}
 
@@ -30,9 +32,13 @@ end_opens next_port_name t ordinary h = rw h refl
 end_opens names_end t ordinary h = rw h refl
 end_opens mode t ordinary h = rw h refl
 end_opens ports_end t ordinary h = rw h refl
+end_opens (unit_end of_entity) t ordinary h = rw h refl
 end_opens architecture_name t ordinary h = rw h refl
 end_opens entity_again t ordinary h = rw h refl
-end_opens processes_end t ordinary h = rw h refl
+end_opens (processes_end r) t ordinary h = rw h refl
+end_opens listed_name t ordinary h = rw h refl
+end_opens listed_end t ordinary h = rw h refl
+end_opens process_begin t ordinary h = rw h refl
 end_opens target t ordinary h = rw h refl
 end_opens (operand d true) t ordinary h = rw h refl
 end_opens (operand d false) t ordinary h = rw h refl
@@ -54,9 +60,14 @@ body_ordinary next_port_name t body h = chosen _ [] body None tt (none_chosen bo
 body_ordinary names_end t body h = chosen _ (next_port_name ∷ names_end ∷ []) body _ (search) (chosen _ [] body None tt (none_chosen body)) h
 body_ordinary mode t body h = chosen _ [] body None tt (none_chosen body) h
 body_ordinary ports_end t body h = chosen _ port_items body _ (search) (chosen _ [] body None tt (none_chosen body)) h
+body_ordinary (unit_end of_entity) t body h = chosen _ (fixed 0 (mark SEMICOLON) ∷ []) body _ (search) (chosen _ [] body None tt (none_chosen body)) h
 body_ordinary architecture_name t body h = chosen _ [] body None tt (none_chosen body) h
 body_ordinary entity_again t body h = chosen _ [] body None tt (none_chosen body) h
-body_ordinary processes_end t body h = chosen _ process_items body _ (search) (chosen _ [] body None tt (none_chosen body)) h
+body_ordinary (processes_end V2019) t body h = chosen _ (process_items V2019) body _ (search) (chosen _ [] body None tt (none_chosen body)) h
+body_ordinary (processes_end V1993) t body h = chosen _ (process_items V1993) body _ (search) (chosen _ [] body None tt (none_chosen body)) h
+body_ordinary listed_name t body h = chosen _ [] body None tt (none_chosen body) h
+body_ordinary listed_end t body h = chosen _ (listed_name ∷ listed_end ∷ []) body _ (search) (chosen _ [] body None tt (none_chosen body)) h
+body_ordinary process_begin t body h = chosen _ (fixed 1 (word BEGIN) ∷ []) body _ (search) (chosen _ [] body None tt (none_chosen body)) h
 body_ordinary target t body h = chosen _ [] body None tt (none_chosen body) h
 body_ordinary (operand d signed) t body h = chosen _ [] body _ tt (chosen _ (operand (d + 1) true ∷ expression_end d CLOSING ∷ []) body _ (search) (chosen _ (operand d false ∷ []) body None (search) (none_chosen body))) h
 body_ordinary (expression_end d n) t body h = chosen _ (operand (d + 1) true ∷ expression_end d n ∷ []) body _ (search) (chosen _ [] body None tt (none_chosen body)) h
@@ -108,10 +119,12 @@ front_items [] = []
 front_items (k ∷ []) = []
 front_items (k ∷ l ∷ ks) = k ∷ front_items (l ∷ ks)
 
-pub file_all_passed : (limit : ℕ) (ts : List Token) (m n : Memory) (js : List Item) → Passes limit m file_items ts n js → EndsOnce ts → js ≡ []
+pub file_all_passed : (r : Revision) (limit : ℕ) (ts : List Token) (m n : Memory) (js : List Item) → Passes limit m (file_items r) ts n js → EndsOnce ts → js ≡ []
 unfolding front_items
-file_all_passed limit ts m n js p ends = all_passed limit ts m (front_items file_items) n js (search) p ends
+file_all_passed V2019 limit ts m n js p ends = all_passed limit ts m (front_items (file_items V2019)) n js (search) p ends
+file_all_passed V1993 limit ts m n js p ends = all_passed limit ts m (front_items (file_items V1993)) n js (search) p ends
 
-pub file_nothing_more : (limit : ℕ) (front rest : List Token) (m n : Memory) → Passes limit m file_items front n [] → EndsOnce (front ++ rest) → rest ≡ []
+pub file_nothing_more : (r : Revision) (limit : ℕ) (front rest : List Token) (m n : Memory) → Passes limit m (file_items r) front n [] → EndsOnce (front ++ rest) → rest ≡ []
 unfolding front_items
-file_nothing_more limit front rest m n p ends = nothing_more limit front rest m (front_items file_items) n (search) p ends
+file_nothing_more V2019 limit front rest m n p ends = nothing_more limit front rest m (front_items (file_items V2019)) n (search) p ends
+file_nothing_more V1993 limit front rest m n p ends = nothing_more limit front rest m (front_items (file_items V1993)) n (search) p ends

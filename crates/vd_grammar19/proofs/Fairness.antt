@@ -1,22 +1,22 @@
 -- What is tested of names while reading on is what the conditions on a file say.
-use Rattle.std.proofs.Common.{◌≡◌, ℕ, zero, suc, ◌<◌, Bool, true, false, List, [], ◌∷◌, ◌++◌, length, refl, sym, ap, ◌∙◌, arith, inl, inr}
+use Rattle.std.proofs.Common.{◌≡◌, ℕ, zero, suc, ◌<◌, Bool, true, false, List, [], ◌∷◌, ◌++◌, length, Option, Some, None, refl, sym, ap, ◌∙◌, subst, arith, inl, inr}
 use Rattle.std.specs.Prelude.{if◌then◌else◌, ◌&&◌, not, map, ◌||◌, ◌⊎◌, ◌↔◌, Contains}
 use Rattle.std.specs.Str.{bytes_eq}
 use Rattle.std.specs.List.{flat_map, AllByRecursion, list_any}
 use Rattle.std.proofs.lemmas.Bool.{and_parts, and_from, or_cases, or_right, not-true, not_from_false, false≢true}
 use Rattle.std.proofs.Math.Bool.{and_assoc}
 use Rattle.vd_forest.specs.Texts.{with_text}
-use Rattle.vd_trees.specs.declared.revision.Revision.TheVariants.{V2019}
+use Rattle.vd_trees.specs.declared.revision.Revision.{Revision}
 use Rattle.vd_lex.specs.declared.tokens.Token.{Token}
 use Rattle.vd_lex.specs.declared.tokens.TheConstants.{IN, OUT}
-use Rattle.vd_grammar19.specs.Symbols.{word, Is, IsName}
-use Rattle.vd_grammar19.specs.Derivations.{Expression, name, brackets, inverted, conjoined, Further, names_of, Port, IsMode, IsPort, IsFurtherPort, Sensitivity, every, listed, IsSensitivity, Process, IsProcess, File, IsFile, ports_of}
-use Rattle.vd_grammar19.specs.Conditions.{texts_of, port_names, declared, IsPortOf, expression_names, sensitivity_names, taken_names, AreNew, KeepsModes, MeetsConditions}
+use Rattle.vd_grammar19.specs.Symbols.{word, Is}
+use Rattle.vd_grammar19.specs.Derivations.{Expression, name, brackets, inverted, conjoined, Further, names_of, Port, IsMode, IsPort, IsFurtherPort, Process, File, IsFile, ports_of}
+use Rattle.vd_grammar19.specs.Conditions.{texts_of, port_names, declared, IsPortOf, expression_names, sensitivity_names, taken_names, AreNew, Repeats, KeepsModes, MeetsConditions}
 use Rattle.vd_grammar19.specs.Reader.{is, among, with_texts, Known}
 use Rattle.vd_grammar19.proofs.Machine.{Memory, no_memory}
 use Rattle.vd_grammar19.proofs.RunExpressions.{is_from, bytes_eq_same, fair_expression}
 use Rattle.vd_grammar19.proofs.RunPorts.{all_new, port_texts, after_port, fair_ports, after_ports}
-use Rattle.vd_grammar19.proofs.RunFiles.{none_optional, fair_process, fair_processes, entity_memory, ports_memory, fair_file}
+use Rattle.vd_grammar19.proofs.RunFiles.{fair_names, fair_process, fair_processes, fair_closing, entity_memory, ports_memory, fair_file}
 use Rattle.vd_grammar19.proofs.SoundExpressions.{same_bytes, is_so}
 
 -- ---- among some texts
@@ -226,9 +226,13 @@ readable_from outs (conjoined e w f) h =
     let parts = all_parts (Readable outs) (expression_names e) (expression_names f) h in
     and_from (fair_expression outs e) (fair_expression outs f) (readable_from outs e parts.0) (readable_from outs f parts.1)
 
-no_list : (s : Sensitivity) → IsSensitivity V2019 s → sensitivity_names s ≡ []
-no_list (every t) h = refl
-no_list (listed ns) h = absurd h
+names_so : (outs : List (List ℕ)) (ts : List Token) → fair_names outs ts ≡ true → AllByRecursion (Readable outs) ts
+names_so outs [] h = tt
+names_so outs (t ∷ ts) h = let parts = and_parts (not (among outs t.text)) (fair_names outs ts) h in (not-true (among outs t.text) parts.0, names_so outs ts parts.1)
+
+names_from : (outs : List (List ℕ)) (ts : List Token) → AllByRecursion (Readable outs) ts → fair_names outs ts ≡ true
+names_from outs [] h = refl
+names_from outs (t ∷ ts) h = and_from (not (among outs t.text)) (fair_names outs ts) (not_from_false (among outs t.text) h.0) (names_from outs ts h.1)
 
 -- no `out` port has the name, and no `in` port
 module _ (f : File) (are : AllByRecursion IsPort (ports_of f)) where
@@ -255,28 +259,39 @@ module _ (f : File) (are : AllByRecursion IsPort (ports_of f)) where
       go true h = absurd (none (in_so (ports_of f) are u (sym (ins_file f u) ∙ h)))
       go false h = refl
 
-  process_so : (p : Process) → IsProcess V2019 p → fair_process known p ≡ true → KeepsModes (ports_of f) p
-  process_so p is-p h =
-      let parts = and_parts (not (among known.ins p.target.text)) (fair_expression known.outs p.value) h in
+  abbrev NotOut : Token → Type 0
+  NotOut t = IsPortOf OUT (ports_of f) t.text → ⊥
+
+  process_so : (p : Process) → fair_process known p ≡ true → KeepsModes (ports_of f) p
+  process_so p h =
+      let listed_names = sensitivity_names p.sensitivity in
+      let fair_target = not (among known.ins p.target.text) in
+      let h1 = and_parts (fair_names known.outs listed_names) (fair_target && fair_expression known.outs p.value) h in
+      let h2 = and_parts fair_target (fair_expression known.outs p.value) h1.1 in
+      let readable = all-append (Readable known.outs) listed_names (expression_names p.value) (names_so known.outs listed_names h1.0) (readable_so known.outs p.value h2.1) in
       record {
-        reads = rw (no_list p.sensitivity is-p.1) (all_weaker (Readable known.outs) (λ t. IsPortOf OUT (ports_of f) t.text → ⊥) not_out_so (expression_names p.value) (readable_so known.outs p.value parts.1));
-        target = not_in_so p.target.text (not-true _ parts.0);
+        reads = all_weaker (Readable known.outs) NotOut not_out_so (listed_names ++ expression_names p.value) readable;
+        target = not_in_so p.target.text (not-true _ h2.0);
       }
 
-  process_from : (p : Process) → IsProcess V2019 p → KeepsModes (ports_of f) p → fair_process known p ≡ true
-  process_from p is-p h =
-      let reads : AllByRecursion (λ t. IsPortOf OUT (ports_of f) t.text → ⊥) (expression_names p.value) = rw (no_list p.sensitivity is-p.1) at h.reads in
-      and_from (not (among known.ins p.target.text)) (fair_expression known.outs p.value)
+  process_from : (p : Process) → KeepsModes (ports_of f) p → fair_process known p ≡ true
+  process_from p h =
+      let listed_names = sensitivity_names p.sensitivity in
+      let fair_target = not (among known.ins p.target.text) in
+      let readable = all_parts (Readable known.outs) listed_names (expression_names p.value) (all_weaker NotOut (Readable known.outs) not_out_from (listed_names ++ expression_names p.value) h.reads) in
+      and_from (fair_names known.outs listed_names) (fair_target && fair_expression known.outs p.value)
+      (names_from known.outs listed_names readable.0)
+      (and_from fair_target (fair_expression known.outs p.value)
       (not_from_false _ (not_in_from p.target.text h.target))
-      (readable_from known.outs p.value (all_weaker (λ t. IsPortOf OUT (ports_of f) t.text → ⊥) (Readable known.outs) not_out_from (expression_names p.value) reads))
+      (readable_from known.outs p.value readable.1))
 
-  processes_so : (ps : List Process) → AllByRecursion (IsProcess V2019) ps → fair_processes known ps ≡ true → AllByRecursion (KeepsModes (ports_of f)) ps
-  processes_so [] all h = tt
-  processes_so (p ∷ ps) all h = let parts = and_parts (fair_process known p) (fair_processes known ps) h in (process_so p all.0 parts.0, processes_so ps all.1 parts.1)
+  processes_so : (ps : List Process) → fair_processes known ps ≡ true → AllByRecursion (KeepsModes (ports_of f)) ps
+  processes_so [] h = tt
+  processes_so (p ∷ ps) h = let parts = and_parts (fair_process known p) (fair_processes known ps) h in (process_so p parts.0, processes_so ps parts.1)
 
-  processes_from : (ps : List Process) → AllByRecursion (IsProcess V2019) ps → AllByRecursion (KeepsModes (ports_of f)) ps → fair_processes known ps ≡ true
-  processes_from [] all h = refl
-  processes_from (p ∷ ps) all h = and_from (fair_process known p) (fair_processes known ps) (process_from p all.0 h.0) (processes_from ps all.1 h.1)
+  processes_from : (ps : List Process) → AllByRecursion (KeepsModes (ports_of f)) ps → fair_processes known ps ≡ true
+  processes_from [] h = refl
+  processes_from (p ∷ ps) h = and_from (fair_process known p) (fair_processes known ps) (process_from p h.0) (processes_from ps h.1)
 
 -- ---- the file
 
@@ -298,24 +313,36 @@ entity_of : (m : Memory) (fs : List (Further Port)) → (after_ports m fs).entit
 entity_of m [] = refl
 entity_of m (f ∷ fs) = entity_of (after_port m f.item) fs
 
--- six facts, and four of them
-module _ (a b c d e f : Bool) where
-  abbrev all_six : Bool
-  all_six = a && (b && (c && (d && (e && f))))
+-- a closing name repeats that of its unit
 
-  six_parts : all_six ≡ true → (a ≡ true) × (b ≡ true) × (c ≡ true) × (d ≡ true) × (e ≡ true) × (f ≡ true)
-  six_parts h =
-      let h1 = and_parts a (b && (c && (d && (e && f)))) h in
-      let h2 = and_parts b (c && (d && (e && f))) h1.1 in
-      let h3 = and_parts c (d && (e && f)) h2.1 in
-      let h4 = and_parts d (e && f) h3.1 in
-      let h5 = and_parts e f h4.1 in
-      (h1.0, h2.0, h3.0, h4.0, h5.0, h5.1)
+closing_so : (text : List ℕ) (o : Option Token) → fair_closing text o ≡ true → Repeats text o
+closing_so text None h = tt
+closing_so text (Some t) h = same_bytes t.text text h
 
-  six_from : a ≡ true → b ≡ true → c ≡ true → d ≡ true → e ≡ true → f ≡ true → all_six ≡ true
-  six_from ha hb hc hd he hf = rw (ha, hb, hc, hd, he, hf) refl
+closing_from : (text : List ℕ) (o : Option Token) → Repeats text o → fair_closing text o ≡ true
+closing_from text None h = refl
+closing_from text (Some t) h = rw h (bytes_eq_same text)
 
-module _ (f : File) (h : IsFile V2019 f) where
+-- eight facts
+module _ (a b c d e f g h : Bool) where
+  abbrev all_eight : Bool
+  all_eight = a && (b && (c && (d && (e && (f && (g && h))))))
+
+  eight_parts : all_eight ≡ true → (a ≡ true) × (b ≡ true) × (c ≡ true) × (d ≡ true) × (e ≡ true) × (f ≡ true) × (g ≡ true) × (h ≡ true)
+  eight_parts all =
+      let h1 = and_parts a (b && (c && (d && (e && (f && (g && h)))))) all in
+      let h2 = and_parts b (c && (d && (e && (f && (g && h))))) h1.1 in
+      let h3 = and_parts c (d && (e && (f && (g && h)))) h2.1 in
+      let h4 = and_parts d (e && (f && (g && h))) h3.1 in
+      let h5 = and_parts e (f && (g && h)) h4.1 in
+      let h6 = and_parts f (g && h) h5.1 in
+      let h7 = and_parts g h h6.1 in
+      (h1.0, h2.0, h3.0, h4.0, h5.0, h6.0, h7.0, h7.1)
+
+  eight_from : a ≡ true → b ≡ true → c ≡ true → d ≡ true → e ≡ true → f ≡ true → g ≡ true → h ≡ true → all_eight ≡ true
+  eight_from ha hb hc hd he hf hg hh = rw (ha, hb, hc, hd, he, hf, hg, hh) refl
+
+module _ (r : Revision) (f : File) (h : IsFile r f) where
   are_ports : AllByRecursion IsPort (ports_of f)
   are_ports = (h.first_port, go f.other_ports h.other_ports)
     where
@@ -334,15 +361,21 @@ module _ (f : File) (h : IsFile V2019 f) where
   t3 = fair_ports (after_port (entity_memory true f) f.first_port) f.other_ports
 
   abbrev t4 : Bool
-  t4 = not (among (ports_memory true f).known.taken f.architecture.text)
+  t4 = fair_closing (ports_memory true f).entity f.entity_closing
 
   abbrev t5 : Bool
-  t5 = bytes_eq f.of_entity.text (ports_memory true f).entity
+  t5 = not (among (ports_memory true f).known.taken f.architecture.text)
 
   abbrev t6 : Bool
-  t6 = fair_processes (ports_memory true f).known f.processes
+  t6 = bytes_eq f.of_entity.text (ports_memory true f).entity
 
-  declared_new : all_new taken_names (texts_of (declared f)) ≡ t1 && (t2 && (t3 && (t4 && true)))
+  abbrev t7 : Bool
+  t7 = fair_processes (ports_memory true f).known f.processes
+
+  abbrev t8 : Bool
+  t8 = fair_closing f.architecture.text f.architecture_closing
+
+  declared_new : all_new taken_names (texts_of (declared f)) ≡ t1 && (t2 && (t3 && (t5 && true)))
   declared_new = ap (λ (b : Bool). t1 && b) (names_new (entity_memory true f) f.first_port f.other_ports f.architecture)
 
   same_entity : (ports_memory true f).entity ≡ f.entity.text
@@ -350,22 +383,23 @@ module _ (f : File) (h : IsFile V2019 f) where
 
   pub fair_so : fair_file true f ≡ true → MeetsConditions f
   fair_so fair =
-      let parts = six_parts t1 t2 t3 t4 t5 t6 fair in
-      let new : all_new taken_names (texts_of (declared f)) ≡ true = declared_new ∙ rw (parts.0, parts.1, parts.2, parts.3) refl in
+      let parts = eight_parts t1 t2 t3 t4 t5 t6 t7 t8 fair in
+      let new : all_new taken_names (texts_of (declared f)) ≡ true = declared_new ∙ rw (parts.0, parts.1, parts.2, parts.4) refl in
       record {
         declared = new_so taken_names (texts_of (declared f)) new;
-        of_entity = same_bytes f.of_entity.text (ports_memory true f).entity parts.4 ∙ same_entity;
-        entity_closing = rw (none_optional IsName f.entity_closing h.entity_closing) tt;
-        modes = processes_so f are_ports f.processes h.processes parts.5;
-        architecture_closing = rw (none_optional IsName f.architecture_closing h.architecture_closing) tt;
+        of_entity = same_bytes f.of_entity.text (ports_memory true f).entity parts.5 ∙ same_entity;
+        entity_closing = subst (λ (text : List ℕ). Repeats text f.entity_closing) same_entity (closing_so (ports_memory true f).entity f.entity_closing parts.3);
+        modes = processes_so f are_ports f.processes parts.6;
+        architecture_closing = closing_so f.architecture.text f.architecture_closing parts.7;
       }
 
   pub fair_from : MeetsConditions f → fair_file true f ≡ true
   fair_from meets =
       let new = sym declared_new ∙ new_from taken_names (texts_of (declared f)) meets.declared in
-      let h1 = and_parts t1 (t2 && (t3 && (t4 && true))) new in
-      let h2 = and_parts t2 (t3 && (t4 && true)) h1.1 in
-      let h3 = and_parts t3 (t4 && true) h2.1 in
-      let h4 = and_parts t4 true h3.1 in
-      let again : t5 ≡ true = rw (meets.of_entity, same_entity) (bytes_eq_same f.entity.text) in
-      six_from t1 t2 t3 t4 t5 t6 h1.0 h2.0 h3.0 h4.0 again (processes_from f are_ports f.processes h.processes meets.modes)
+      let h1 = and_parts t1 (t2 && (t3 && (t5 && true))) new in
+      let h2 = and_parts t2 (t3 && (t5 && true)) h1.1 in
+      let h3 = and_parts t3 (t5 && true) h2.1 in
+      let h4 = and_parts t5 true h3.1 in
+      let again : t6 ≡ true = rw (meets.of_entity, same_entity) (bytes_eq_same f.entity.text) in
+      let entity_end : t4 ≡ true = ap (λ (text : List ℕ). fair_closing text f.entity_closing) same_entity ∙ closing_from f.entity.text f.entity_closing meets.entity_closing in
+      eight_from t1 t2 t3 t4 t5 t6 t7 t8 h1.0 h2.0 h3.0 entity_end h4.0 again (processes_from f are_ports f.processes meets.modes) (closing_from f.architecture.text f.architecture_closing meets.architecture_closing)

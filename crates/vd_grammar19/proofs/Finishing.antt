@@ -7,11 +7,11 @@ use Rattle.std.proofs.lemmas.List.{length-replicate}
 use Rattle.vd_lex.specs.declared.tokens.Kind.{Kind}
 use Rattle.vd_lex.specs.declared.tokens.Kind.TheVariants.{Name, Word, Mark, End}
 use Rattle.vd_lex.specs.declared.tokens.Token.{Token}
-use Rattle.vd_lex.specs.declared.tokens.TheConstants.{END, IN, CLOSING, COLON}
+use Rattle.vd_lex.specs.declared.tokens.TheConstants.{BEGIN, END, IN, CLOSING, COLON, SEMICOLON}
 use Rattle.vd_grammar19.specs.Symbols.{Symbol, word, mark, named, ending}
 use Rattle.vd_grammar19.specs.Refusals.{no_token}
 use Rattle.vd_grammar19.specs.Reader.{is, among}
-use Rattle.vd_grammar19.proofs.Machine.{Item, fixed, entity_name, port_name, next_port_name, names_end, mode, ports_end, architecture_name, entity_again, processes_end, target, operand, expression_end, opened, Memory, remember, meets, Run, run}
+use Rattle.vd_grammar19.proofs.Machine.{Item, fixed, entity_name, port_name, next_port_name, names_end, mode, ports_end, unit_end, architecture_name, entity_again, processes_end, listed_name, listed_end, process_begin, target, operand, expression_end, opened, Memory, remember, meets, Run, run}
 use Rattle.vd_grammar19.proofs.RunExpressions.{bytes_eq_same, run_step}
 use Rattle.vd_grammar19.proofs.SoundExpressions.{same_bytes}
 
@@ -65,9 +65,13 @@ last_token m next_port_name = a_token Name (fresh m.known.taken)
 last_token m names_end = spelling (mark COLON)
 last_token m mode = spelling (word IN)
 last_token m ports_end = spelling (mark CLOSING)
+last_token m (unit_end of_entity) = spelling (mark SEMICOLON)
 last_token m architecture_name = a_token Name (fresh m.known.taken)
 last_token m entity_again = a_token Name m.entity
-last_token m processes_end = spelling (word END)
+last_token m (processes_end r) = spelling (word END)
+last_token m listed_name = a_token Name (fresh m.known.outs)
+last_token m listed_end = spelling (mark CLOSING)
+last_token m process_begin = spelling (word BEGIN)
 last_token m target = a_token Name (fresh m.known.ins)
 last_token m (operand d signed) = a_token Name (fresh m.known.outs)
 last_token m (expression_end d n) = spelling (mark n)
@@ -80,9 +84,13 @@ last_opens m next_port_name = refl
 last_opens m names_end = refl
 last_opens m mode = refl
 last_opens m ports_end = refl
+last_opens m (unit_end of_entity) = refl
 last_opens m architecture_name = refl
 last_opens m entity_again = refl
-last_opens m processes_end = refl
+last_opens m (processes_end r) = refl
+last_opens m listed_name = refl
+last_opens m listed_end = refl
+last_opens m process_begin = refl
 last_opens m target = refl
 last_opens m (operand d signed) = refl
 last_opens m (expression_end d n) = rw (eq-eqb n n refl) refl
@@ -95,9 +103,13 @@ last_meets m next_port_name = not_from_false _ (fresh_absent m.known.taken)
 last_meets m names_end = refl
 last_meets m mode = refl
 last_meets m ports_end = refl
+last_meets m (unit_end of_entity) = refl
 last_meets m architecture_name = not_from_false _ (fresh_absent m.known.taken)
 last_meets m entity_again = bytes_eq_same m.entity
-last_meets m processes_end = refl
+last_meets m (processes_end r) = refl
+last_meets m listed_name = not_from_false _ (fresh_absent m.known.outs)
+last_meets m listed_end = refl
+last_meets m process_begin = refl
 last_meets m target = not_from_false _ (fresh_absent m.known.ins)
 last_meets m (operand d signed) = not_from_false _ (fresh_absent m.known.outs)
 last_meets m (expression_end d n) = refl

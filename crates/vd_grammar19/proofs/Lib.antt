@@ -5,6 +5,7 @@ pub mod RunFiles
 pub mod Steps
 pub mod SoundExpressions
 pub mod SoundPorts
+pub mod SoundProcesses
 pub mod SoundFiles
 pub mod Agreement
 pub mod AgreementExpressions
@@ -20,5 +21,6 @@ pub mod FileSteps
 pub mod Units
 pub mod Valid
 pub mod BackExpressions
+pub mod BackProcesses
 pub mod BackFiles
 pub mod OneReading

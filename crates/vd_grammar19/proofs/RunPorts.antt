@@ -41,7 +41,7 @@ all_new taken (t ∷ ts) = not (among taken t) && all_new (with_text taken t) ts
 
 -- more names of a port
 abbrev pub after_names : Memory → List (List ℕ) → Memory
-after_names m ts = record { entity = m.entity; known = record m.known { taken = with_texts m.known.taken ts }; texts = m.texts ++ ts }
+after_names m ts = record m { known = record m.known { taken = with_texts m.known.taken ts }; texts = m.texts ++ ts }
 
 pub run_further_names : (fs : List (Further Token)) (m : Memory) (is' : List Item) (rest : List Token) → AllByRecursion IsFurtherName fs
     → run m (names_end ∷ is') (flat_map further_name_tokens fs ++ rest) ≡ before (all_at 0 (flat_map further_name_tokens fs)) (all_new m.known.taken (texts_of (map (λ f. f.item) fs))) (run (after_names m (texts_of (map (λ f. f.item) fs))) (names_end ∷ is') rest)
@@ -63,8 +63,7 @@ abbrev pub port_texts : Port → List (List ℕ)
 port_texts p = texts_of (names_of p.names)
 
 abbrev pub after_port : Memory → Port → Memory
-after_port m p = record {
-  entity = m.entity;
+after_port m p = record m {
   known = with_mode (record m.known { taken = with_texts m.known.taken (port_texts p) }) (port_texts p) p.mode;
   texts = [];
 }

@@ -6,15 +6,17 @@ use Rattle.std.proofs.lemmas.Bool.{eqb-true, and_parts, or_cases, not-true}
 use Rattle.vd_forest.specs.Forest.{Forest, nothing, with_next}
 use Rattle.vd_trees.specs.declared.form.Form.{Form}
 use Rattle.vd_trees.specs.declared.form.Form.TheVariants as form
+use Rattle.vd_trees.specs.declared.revision.Revision.{Revision}
+use Rattle.vd_trees.specs.declared.revision.Revision.TheVariants.{V2019, V1993}
 use Rattle.vd_lex.specs.declared.tokens.Kind.{Kind}
 use Rattle.vd_lex.specs.declared.tokens.Kind.TheVariants.{Name, Word, Mark, End}
 use Rattle.vd_lex.specs.declared.tokens.Token.{Token}
 use Rattle.vd_lex.specs.declared.tokens.TheConstants.{AND, IN, NOT, OUT, OPENING, CLOSING}
 use Rattle.vd_grammar19.specs.Symbols.{Symbol, word, mark, named, ending, IsName, Is, Spell}
-use Rattle.vd_grammar19.specs.Derivations.{Expression, name, brackets, inverted, conjoined, Level, primary, factor, whole, IsExpression, expression_tokens, IsMode}
+use Rattle.vd_grammar19.specs.Derivations.{Expression, name, brackets, inverted, conjoined, Level, primary, factor, whole, IsExpression, expression_tokens, IsMode, IsOptional, optional_tokens}
 use Rattle.vd_grammar19.specs.Refusals.{place_of_token}
 use Rattle.vd_grammar19.specs.Shapes.{node, expression_place, expression_shape}
-use Rattle.vd_grammar19.specs.Reader.{is_word, is_mark, is_named, is_end, is, is_name, is_mode, among, is_name_outside, Outcome, stuck, deep, token_at, spelled_at, begins, begins_expression, brackets_at, name_at, primary_at, inverted_at, factor_at, conjoined_at, chain_at, expression_at}
+use Rattle.vd_grammar19.specs.Reader.{is_word, is_mark, is_named, is_end, is, is_name, is_mode, among, is_name_outside, is_same_name, Outcome, stuck, deep, token_at, spelled_at, begins, optional_at, begins_expression, brackets_at, name_at, primary_at, inverted_at, factor_at, conjoined_at, chain_at, expression_at}
 use Rattle.vd_grammar19.proofs.Steps.{OnGot, got_bind, got_weaker, token_got, repeated_at_kept}
 
 -- ---- what a test says
@@ -61,6 +63,9 @@ is_name_so t h = name_of t.kind h
 pub is_outside_so : (texts : List (List ℕ)) (t : Token) → is_name_outside texts t ≡ true → IsName t × (among texts t.text ≡ false)
 is_outside_so texts t h = let parts = and_parts (is_name t) (not (among texts t.text)) h in (is_name_so t parts.0, not-true _ parts.1)
 
+pub is_same_name_so : (text : List ℕ) (t : Token) → is_same_name text t ≡ true → IsName t
+is_same_name_so text t h = is_name_so t (and_parts (is_name t) (bytes_eq t.text text) h).0
+
 pub is_mode_so : (t : Token) → is_mode t ≡ true → IsMode t
 is_mode_so t h = elim (or_cases (is (word IN) t) (is (word OUT) t) h) [ inl is_in ↦ inl (is_so (word IN) t is_in) | inr is_out ↦ inr (is_so (word OUT) t is_out) ]
 
@@ -75,6 +80,11 @@ spelled_got (s ∷ ss) ts =
 pub got_if : {A : Type 0} (b : Bool) (o p : Outcome A) (P : A × List Token → Type 0) → OnGot o P → OnGot p P → OnGot (cond b o p) P
 got_if true o p P first second = first
 got_if false o p P first second = second
+
+pub optional_sound : (r : Revision) (fits test : Token → Bool) (P : Token → Type 0) → ((t : Token) → test t ≡ true → P t) → (ts : List Token) → OnGot (optional_at r fits test ts) (λ x. IsOptional r P x.0 × (optional_tokens x.0 ++ x.1 ≡ ts))
+unfolding optional_at
+optional_sound V2019 fits test P so ts = (tt, refl)
+optional_sound V1993 fits test P so ts = got_if (begins fits ts) _ _ _ (got_bind (token_at test ts) _ _ _ (token_got test ts) (λ x held. (so x.0 held.0, held.1))) (tt, refl)
 
 -- ---- expressions
 

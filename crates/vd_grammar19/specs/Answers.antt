@@ -2,7 +2,7 @@
 use Rattle.std.specs.Prelude.{◌≡◌, List, Result, Ok, Err}
 use Rattle.vd_forest.specs.Forest.{Forest}
 use Rattle.vd_trees.specs.declared.form.Form.{Form}
-use Rattle.vd_trees.specs.declared.revision.Revision.TheVariants.{V2019}
+use Rattle.vd_trees.specs.declared.revision.Revision.{Revision}
 use Rattle.vd_lex.specs.declared.tokens.Token.{Token}
 use Rattle.vd_grammar19.specs.declared.reader.GrammarEnd.{GrammarEnd}
 use Rattle.vd_grammar19.specs.declared.reader.GrammarEnd.TheVariants as ends
@@ -12,11 +12,11 @@ use Rattle.vd_grammar19.specs.Refusals.{place_of_token}
 use Rattle.vd_grammar19.specs.Readings.{Reading, tree, hopeless, too_deep, IsReading}
 
 -- the answer is the tree of a reading, or what is refused; memory may run out at any time
-abbrev pub AnswersReading : {X : Type 0} → (X → Forest Form) → List Token → Result X GrammarEnd → Type 0
-AnswersReading view ts (Ok x) = IsReading V2019 ts (tree (view x))
-AnswersReading view ts (Err (ends.Refused r)) = (r.rule ≡ 201) × IsReading V2019 ts (hopeless r.place)
-AnswersReading view ts (Err ends.Nesting) = IsReading V2019 ts too_deep
-AnswersReading view ts (Err ends.Memory) = Unit {0}
+abbrev pub AnswersReading : {X : Type 0} → Revision → (X → Forest Form) → List Token → Result X GrammarEnd → Type 0
+AnswersReading r view ts (Ok x) = IsReading r ts (tree (view x))
+AnswersReading r view ts (Err (ends.Refused x)) = (x.rule ≡ 201) × IsReading r ts (hopeless x.place)
+AnswersReading r view ts (Err ends.Nesting) = IsReading r ts too_deep
+AnswersReading r view ts (Err ends.Memory) = Unit {0}
 
 -- what is answered where reading stopped
 abbrev pub end_of : Stop → GrammarEnd
@@ -26,4 +26,4 @@ end_of Memory = ends.Memory
 
 -- a token list has one answer alone
 abbrev pub OneReading : Type 0
-OneReading = (ts : List Token) (a b : Reading) → IsReading V2019 ts a → IsReading V2019 ts b → a ≡ b
+OneReading = (r : Revision) (ts : List Token) (a b : Reading) → IsReading r ts a → IsReading r ts b → a ≡ b

@@ -8,4 +8,5 @@ pub mod Reader
 pub mod Given
 pub mod Known
 pub mod PortNames
+pub mod Fronts
 pub mod Answers

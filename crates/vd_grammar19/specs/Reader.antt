@@ -1,6 +1,7 @@
 -- Reading tokens from the left: the tree that is read, or the token at which reading stops. What each reader takes is
 -- proved to be what the grammar derives, and where it stops to be the first hopeless token or the first one too deep.
-use Rattle.std.specs.Prelude.{ℕ, zero, suc, Bool, true, false, ◌&&◌, ◌||◌, not, ◌==◌, List, [], ◌∷◌, ◌++◌, length, if◌then◌else◌}
+-- Where the revisions differ, a reader is of one of them.
+use Rattle.std.specs.Prelude.{ℕ, zero, suc, ◌-◌, Bool, true, false, ◌&&◌, ◌||◌, not, ◌==◌, List, [], ◌∷◌, ◌++◌, length, if◌then◌else◌, Option, Some, None}
 use Rattle.std.specs.List.{list_any}
 use Rattle.std.specs.Str.{bytes_eq}
 use Rattle.vd_bytes.specs.declared.places.Place.{Place}
@@ -8,15 +9,17 @@ use Rattle.vd_forest.specs.Forest.{Forest, nothing, turned, with_next}
 use Rattle.vd_forest.specs.Texts.{with_text}
 use Rattle.vd_trees.specs.declared.form.Form.{Form}
 use Rattle.vd_trees.specs.declared.form.Form.TheVariants as form
+use Rattle.vd_trees.specs.declared.revision.Revision.{Revision}
+use Rattle.vd_trees.specs.declared.revision.Revision.TheVariants.{V2019, V1993}
 use Rattle.vd_lex.specs.declared.tokens.Kind.{Kind}
 use Rattle.vd_lex.specs.declared.tokens.Kind.TheVariants.{Name, Word, Mark, End}
 use Rattle.vd_lex.specs.declared.tokens.Token.{Token}
-use Rattle.vd_lex.specs.declared.tokens.TheConstants.{ALL, AND, BEGIN, IN, NOT, OF, OUT, PROCESS, OPENING, CLOSING, COMMA, COLON, SEMICOLON, ARROW, END}
+use Rattle.vd_lex.specs.declared.tokens.TheConstants.{ALL, AND, BEGIN, IN, IS, NOT, OF, OUT, PROCESS, OPENING, CLOSING, COMMA, COLON, SEMICOLON, ARROW, END}
 use Rattle.vd_grammar19.specs.Symbols.{Symbol, word, mark, named, ending}
 use Rattle.vd_grammar19.specs.Derivations.{std_ulogic, head_symbols, ports_head_symbols, ports_foot_symbols, architecture_symbols, body_symbols, foot_symbols, last_symbols}
 use Rattle.vd_grammar19.specs.Conditions.{taken_names}
-use Rattle.vd_grammar19.specs.Refusals.{place_of_token}
-use Rattle.vd_grammar19.specs.Shapes.{node, identifier, subtype_shape, if_out, context_shape}
+use Rattle.vd_grammar19.specs.Refusals.{nesting_limit, place_of_token}
+use Rattle.vd_grammar19.specs.Shapes.{node, identifier, optional_identifier, subtype_shape, if_out, context_shape}
 
 -- ---- tests of a token
 
@@ -55,6 +58,10 @@ among texts text = list_any (bytes_eq text) texts
 abbrev pub is_name_outside : List (List ℕ) → Token → Bool
 is_name_outside texts t = is_name t && not (among texts t.text)
 
+-- a name that is this one
+abbrev pub is_same_name : List ℕ → Token → Bool
+is_same_name text t = is_name t && bytes_eq t.text text
+
 -- ---- steps
 
 pub data Outcome (A : Type 0) : Type 0 where
@@ -88,6 +95,11 @@ spelled_at (s ∷ ss) ts = do
 abbrev pub begins : (Token → Bool) → List Token → Bool
 begins test [] = false
 begins test (t ∷ ts) = test t
+
+-- a token that only revision 1993 may have here, where one fits: it has to pass a test
+unfoldable pub optional_at : Revision → (Token → Bool) → (Token → Bool) → List Token → Outcome (Option Token)
+optional_at V2019 fits test ts = got (None, ts)
+optional_at V1993 fits test ts = if begins fits ts then (token_at test ts >>= λ x. got (Some x.0, x.1)) else got (None, ts)
 
 -- a part again and again as long as a token begins one, at most as many times as the number says
 unfoldable pub repeated : {A : Type 0} → (Token → Bool) → (A → List Token → Outcome A) → ℕ → A → List Token → Outcome A
@@ -234,45 +246,95 @@ expression_at outs (suc n) ts = chain_at outs (expression_at outs n) ts
 -- ---- processes
 
 abbrev pub process_head : List Symbol
-process_head = word PROCESS ∷ mark OPENING ∷ word ALL ∷ mark CLOSING ∷ word BEGIN ∷ []
+process_head = word PROCESS ∷ mark OPENING ∷ []
 
 abbrev pub process_foot : List Symbol
 process_foot = mark SEMICOLON ∷ word END ∷ word PROCESS ∷ mark SEMICOLON ∷ []
 
-abbrev pub process_tree : List Token → Token → Forest Form → Forest Form → Forest Form
-process_tree head target value next =
-    node form.ProcessStatement (place_of_token head 0)
-    (node form.All (place_of_token head 2) nothing
-    (node form.Absent (place_of_token head 4) nothing
+-- a further name of a sensitivity list
+unfoldable pub further_listed_at : List (List ℕ) → Forest Form → List Token → Outcome (Forest Form)
+further_listed_at outs made ts = do
+  comma ← token_at (is (mark COMMA)) ts
+  name ← token_at (is_name_outside outs) comma.1
+  got (name_before name.0 made, name.1)
+
+-- a sensitivity list: its names, the last one first
+unfoldable pub listed_at : List (List ℕ) → List Token → Outcome (Forest Form)
+listed_at outs ts = do
+  name ← token_at (is_name_outside outs) ts
+  repeated_at (is (mark COMMA)) (further_listed_at outs) (name_tree name.0) name.1
+
+-- the word `all`, which has no names
+unfoldable pub every_at : List Token → Outcome (Forest Form)
+every_at ts = do
+  all ← token_at (is (word ALL)) ts
+  got (nothing, all.1)
+
+-- what stands in the brackets of a process: names, the last one first, or none
+unfoldable pub sensitivity_at : Revision → List (List ℕ) → List Token → Outcome (Forest Form)
+sensitivity_at V2019 outs ts = every_at ts
+sensitivity_at V1993 outs ts = listed_at outs ts
+
+abbrev pub sensitivity_form : Revision → Form
+sensitivity_form V2019 = form.All
+sensitivity_form V1993 = form.SensitivityList
+
+abbrev pub is_form : Option Token → Form
+is_form None = form.Absent
+is_form (Some t) = form.Is
+
+-- what stands before a process's target: the place of the process, the place and the names of its sensitivity, the last
+-- one first, and whether the word `is` stands there, with the place of that word or of the next one
+pub record FrontRead : Type 0 where
+  pub place : Place
+  pub sensitivity : Place
+  pub names : Forest Form
+  pub word : Form
+  pub word_place : Place
+
+unfoldable pub front_at : Revision → List (List ℕ) → List Token → Outcome FrontRead
+front_at r outs ts = do
+  head ← spelled_at process_head ts
+  names ← sensitivity_at r outs head.1
+  closing ← token_at (is (mark CLOSING)) names.1
+  is_word ← optional_at r (is (word IS)) (is (word IS)) closing.1
+  begin_word ← token_at (is (word BEGIN)) is_word.1
+  got (record { place = place_of_token ts 0; sensitivity = place_of_token head.1 0; names = names.0; word = is_form is_word.0; word_place = place_of_token closing.1 0 }, begin_word.1)
+
+abbrev pub process_tree : Revision → FrontRead → Token → Forest Form → Forest Form → Forest Form
+process_tree r front target value next =
+    node form.ProcessStatement front.place
+    (node (sensitivity_form r) front.sensitivity (turned front.names nothing)
+    (node front.word front.word_place nothing
     (node form.SignalAssignment target.place (node form.Name target.place (identifier target nothing) value) nothing)))
     next
 
-unfoldable pub process_at : Known → ℕ → Forest Form → List Token → Outcome (Forest Form)
-process_at known limit made ts = do
-  head ← spelled_at process_head ts
-  target ← token_at (is_name_outside known.ins) head.1
+unfoldable pub process_at : Revision → Known → ℕ → Forest Form → List Token → Outcome (Forest Form)
+process_at r known limit made ts = do
+  front ← front_at r known.outs ts
+  target ← token_at (is_name_outside known.ins) front.1
   arrow ← token_at (is (mark ARROW)) target.1
   value ← expression_at known.outs limit arrow.1
   foot ← spelled_at process_foot value.1
-  got (process_tree head.0 target.0 value.0 made, foot.1)
+  got (process_tree r front.0 target.0 value.0 made, foot.1)
 
 -- ---- the file
 
-abbrev pub entity_tree : List Token → Token → List Token → Forest Form → List Token → Forest Form
-entity_tree head entity ports_head ports foot =
+abbrev pub entity_tree : List Token → Token → List Token → Forest Form → List Token → Option Token → Forest Form
+entity_tree head entity ports_head ports foot closing =
     node form.EntityDeclaration (place_of_token head 10)
     (identifier entity
     (node form.PortClause (place_of_token ports_head 1) (turned ports nothing)
-    (node form.Closing (place_of_token foot 3) nothing nothing)))
+    (node form.Closing (place_of_token foot 3) (optional_identifier closing) nothing)))
     nothing
 
-abbrev pub architecture_tree : Place → Token → Token → Place → Forest Form → Place → Forest Form
-architecture_tree place architecture of_entity body processes closing =
+abbrev pub architecture_tree : Place → Token → Token → Place → Forest Form → List Token → Option Token → Forest Form
+architecture_tree place architecture of_entity body processes foot closing =
     node form.ArchitectureBody place
     (identifier architecture
     (identifier of_entity
     (node form.StatementPart body (turned processes nothing)
-    (node form.Closing closing nothing nothing))))
+    (node form.Closing (place_of_token foot 1) (optional_identifier closing) nothing))))
     nothing
 
 abbrev pub file_tree : List Token → Forest Form → Place → Forest Form → Forest Form
@@ -286,30 +348,41 @@ pub record EntityRead : Type 0 where
   pub entity : Token
   pub known : Known
 
-unfoldable pub entity_at : Known → List Token → List Token → Outcome EntityRead
-entity_at known head ts = do
+unfoldable pub entity_at : Revision → Known → List Token → List Token → Outcome EntityRead
+entity_at r known head ts = do
   entity ← token_at (is_name_outside known.taken) ts
   ports_head ← spelled_at ports_head_symbols entity.1
   ports ← ports_at (take_name entity.0.text known) ports_head.1
   foot ← spelled_at ports_foot_symbols ports.1
-  got (record { tree = entity_tree head entity.0 ports_head.0 ports.0.made foot.0; entity = entity.0; known = ports.0.known }, foot.1)
+  closing ← optional_at r is_name (is_same_name entity.0.text) foot.1
+  got (record { tree = entity_tree head entity.0 ports_head.0 ports.0.made foot.0 closing.0; entity = entity.0; known = ports.0.known }, closing.1)
 
-unfoldable pub architecture_at : Place → Token → Known → ℕ → List Token → Outcome (Forest Form)
-architecture_at place entity known limit ts = do
-  architecture ← token_at (is_name_outside known.taken) ts
-  of_word ← token_at (is (word OF)) architecture.1
-  of_entity ← token_at (λ t. is_name t && bytes_eq t.text entity.text) of_word.1
+-- an architecture behind its name
+unfoldable pub body_at : Revision → Place → Token → Token → Known → ℕ → List Token → Outcome (Forest Form)
+body_at r place architecture entity known limit ts = do
+  of_word ← token_at (is (word OF)) ts
+  of_entity ← token_at (is_same_name entity.text) of_word.1
   body ← spelled_at body_symbols of_entity.1
-  processes ← repeated_at (is (word PROCESS)) (process_at known limit) nothing body.1
+  processes ← repeated_at (is (word PROCESS)) (process_at r known limit) nothing body.1
   foot ← spelled_at foot_symbols processes.1
-  last ← spelled_at last_symbols foot.1
-  got (architecture_tree place architecture.0 of_entity.0 (place_of_token body.1 0) processes.0 (place_of_token foot.0 1), last.1)
+  closing ← optional_at r is_name (is_same_name architecture.text) foot.1
+  last ← spelled_at last_symbols closing.1
+  got (architecture_tree place architecture of_entity.0 (place_of_token body.1 0) processes.0 foot.0 closing.0, last.1)
+
+unfoldable pub architecture_at : Revision → Place → Token → Known → ℕ → List Token → Outcome (Forest Form)
+architecture_at r place entity known limit ts = do
+  architecture ← token_at (is_name_outside known.taken) ts
+  body_at r place architecture.0 entity known limit architecture.1
+
+-- how many expressions may stand in one another below a process and its assignment
+abbrev pub expressions_limit : Revision → ℕ
+expressions_limit r = nesting_limit r - 2
 
 -- a file whose expressions may stand in one another as many times as the number says
-unfoldable pub file_at : Bool → ℕ → List Token → Outcome (Forest Form)
-file_at guarded limit ts = do
+unfoldable pub file_at : Revision → Bool → ℕ → List Token → Outcome (Forest Form)
+file_at r guarded limit ts = do
   head ← spelled_at head_symbols ts
-  e ← entity_at (no_names guarded) head.0 head.1
+  e ← entity_at r (no_names guarded) head.0 head.1
   middle ← spelled_at architecture_symbols e.1
-  a ← architecture_at (place_of_token middle.0 1) e.0.entity e.0.known limit middle.1
+  a ← architecture_at r (place_of_token middle.0 1) e.0.entity e.0.known limit middle.1
   got (file_tree head.0 e.0.tree (place_of_token middle.0 1) a.0, a.1)

@@ -1,4 +1,4 @@
-//! Reading a token list of the first language: a syntax tree, or the first place at which there is none.
+//! Reading a token list of the first language, in either revision: a syntax tree, or the first place at which there is none.
 #![tactic(auto)]
 
 pub mod reader;
@@ -7,6 +7,7 @@ mod reader_known;
 mod reader_names;
 mod reader_ports;
 mod reader_processes;
+mod reader_sensitivities;
 mod reader_steps;
 
-pub use reader::{GrammarEnd, one_reading, read19};
+pub use reader::{GrammarEnd, one_reading, read19, read93};

@@ -1,15 +1,14 @@
 //! Reading a file's tokens.
 
-ghost use Rattle.std.specs.Prelude.{◌≡◌, ◌≤◌, ◌&&◌, length, IfOk, true};
-ghost use Rattle.std.specs.Str.{bytes_eq};
+ghost use Rattle.std.specs.Prelude.{◌≡◌, ◌≤◌, length, IfOk, true, option_copied};
 ghost use Rattle.vd_forest.specs.Store.{at, Extends};
 ghost use Rattle.vd_grammar19.specs.Given.{Gives};
 ghost use Rattle.vd_grammar19.specs.Known.{known_of};
-ghost use Rattle.vd_grammar19.specs.Shapes.{identifier, context_shape};
+ghost use Rattle.vd_grammar19.specs.Shapes.{identifier, optional_identifier, context_shape};
 ghost use Rattle.vd_grammar19.specs.Refusals.{token_in};
-ghost use Rattle.vd_grammar19.specs.Reader.{is_name, token_at, entity_tree, entity_at, architecture_tree, architecture_at, file_tree, no_names, file_at};
+ghost use Rattle.vd_grammar19.specs.Reader.{entity_tree, entity_at, architecture_tree, architecture_at, file_tree, no_names, expressions_limit, file_at};
 ghost use Rattle.std.specs.List.{AllByRecursion};
-ghost use Rattle.vd_trees.specs.declared.revision.Revision.TheVariants.{V2019};
+ghost use Rattle.vd_trees.specs.declared.revision.Revision.TheVariants.{V2019, V1993};
 ghost use Rattle.vd_lex.specs.Lexings.{EndsOnce, IsPossible};
 ghost use Rattle.vd_grammar19.specs.Answers.{AnswersReading, OneReading, end_of};
 
@@ -18,15 +17,15 @@ use crate::reader_known::{KnownNames, no_names};
 use crate::reader_names::name_outside_at;
 use crate::reader_ports::ports_at;
 use crate::reader_processes::processes_at;
-use crate::reader_steps::{Expected, Stop, expected_at, spelled_at};
+use crate::reader_steps::{Expected, Stop, closing_at, expected_at, same_name_at, spelled_at};
 use std::alloc::{AllocError, Global};
 use vd_bytes::{Place, Refused};
 use vd_forest::Store;
 use vd_lex::tokens::{
-    ALL, ARCHITECTURE, BEGIN, CLOSING, END, ENTITY, IS, Kind, LIBRARY, NESTING_LIMIT, OF, OPENING,
-    POINT, PORT, SEMICOLON, Token, USE,
+    ALL, ARCHITECTURE, BEGIN, CLOSING, END, ENTITY, IS, LIBRARY, NESTING_LIMIT, NESTING93_LIMIT,
+    OF, OPENING, POINT, PORT, SEMICOLON, Token, USE,
 };
-use vd_trees::{Design19, Form};
+use vd_trees::{Design19, Design93, Form, Revision};
 
 const HEAD: [Expected; 11] = [
     Expected::Word(LIBRARY),
@@ -63,6 +62,18 @@ const FOOT: [Expected; 2] = [Expected::Word(END), Expected::Word(ARCHITECTURE)];
 
 const LAST: [Expected; 2] = [Expected::Mark(SEMICOLON), Expected::End];
 
+/// The identifier of a closing name, where it is there.
+fn add_closing(store: &mut Store<Form>, name: Option<&Token>) -> Result<u32, AllocError>
+    ensures tree { IfOk result (λ made. at store.new made ≡ optional_identifier (option_copied name.entry)) }
+    ensures within { IfOk result (λ made. made ≤ length store.new) }
+    ensures extends { Extends store.old store.new }
+{
+    match name {
+        Some(token) => add_identifier(store, token, 0),
+        None => Ok(0),
+    }
+}
+
 /// An entity's tree.
 fn add_entity(
     store: &mut Store<Form>,
@@ -71,20 +82,22 @@ fn add_entity(
     ports_head: &[Token],
     ports: u32,
     foot: &[Token],
+    closing: Option<&Token>,
 ) -> Result<u32, AllocError>
     requires { ports ≤ length store.old }
-    ensures tree { IfOk result (λ made. at store.new made ≡ entity_tree head.now entity.now ports_head.now (at store.old ports) foot.now) }
+    ensures tree { IfOk result (λ made. at store.new made ≡ entity_tree head.now entity.now ports_head.now (at store.old ports) foot.now (option_copied closing.entry)) }
     ensures within { IfOk result (λ made. made ≤ length store.new) }
     ensures extends { Extends store.old store.new }
 {
     let declarations = store.turn(ports, 0)?;
-    let closing = store.add(Form::Closing, &[], place_at(foot, 3), 0, 0)?;
+    let again = add_closing(store, closing)?;
+    let end = store.add(Form::Closing, &[], place_at(foot, 3), again, 0)?;
     let clause = store.add(
         Form::PortClause,
         &[],
         place_at(ports_head, 1),
         declarations,
-        closing,
+        end,
     )?;
     let name = add_identifier(store, entity, clause)?;
     store.add(Form::EntityDeclaration, &[], place_at(head, 10), name, 0)
@@ -95,11 +108,12 @@ fn add_entity(
 fn entity_at<'a>(
     alloc: Global,
     store: &mut Store<Form>,
+    revision: Revision,
     known: &mut KnownNames,
     head: &[Token],
     tokens: &'a [Token],
 ) -> Result<(u32, &'a Token, &'a [Token]), Stop<'a>>
-    ensures entity { Gives (λ x. (record { tree = at store.new x.0; entity = x.1.now; known = known_of known.new }, x.2.now)) result (entity_at (known_of known.old) head.now tokens.now) }
+    ensures entity { Gives (λ x. (record { tree = at store.new x.0; entity = x.1.now; known = known_of known.new }, x.2.now)) result (entity_at revision (known_of known.old) head.now tokens.now) }
     ensures within { IfOk result (λ x. x.0 ≤ length store.new) }
     ensures extends { Extends store.old store.new }
 {
@@ -108,21 +122,9 @@ fn entity_at<'a>(
     let (ports_head, rest) = spelled_at(&PORTS_HEAD, rest)?;
     let (ports, rest) = ports_at(alloc, store, known, rest)?;
     let (foot, rest) = spelled_at(&PORTS_FOOT, rest)?;
-    let tree = add_entity(store, head, entity, ports_head, ports, foot)?;
+    let (closing, rest) = closing_at(revision, entity, rest)?;
+    let tree = add_entity(store, head, entity, ports_head, ports, foot, closing)?;
     Ok((tree, entity, rest))
-}
-
-/// A name that repeats another one, and the tokens behind it.
-#[tactic(auto, unfolding(crate::specs::Reader::token_at))]
-fn same_name_at<'a>(name: &Token, tokens: &'a [Token]) -> Result<(&'a Token, &'a [Token]), Stop<'a>>
-    ensures { Gives (λ x. (x.0.now, x.1.now)) result (token_at (λ t. is_name t && bytes_eq t.text name.now.text) tokens.now) }
-{
-    match tokens {
-        [first, rest @ ..]
-            if matches!(first.kind, Kind::Name) && first.text.as_slice() == name.text.as_slice() =>
-            Ok((first, rest)),
-        _ => Err(Stop::Hopeless(tokens)),
-    }
 }
 
 /// An architecture's tree.
@@ -133,15 +135,17 @@ fn add_architecture(
     entity: &Token,
     body: Place,
     processes: u32,
-    closing: Place,
+    foot: &[Token],
+    closing: Option<&Token>,
 ) -> Result<u32, AllocError>
     requires { processes ≤ length store.old }
-    ensures tree { IfOk result (λ made. at store.new made ≡ architecture_tree place name.now entity.now body (at store.old processes) closing) }
+    ensures tree { IfOk result (λ made. at store.new made ≡ architecture_tree place name.now entity.now body (at store.old processes) foot.now (option_copied closing.entry)) }
     ensures within { IfOk result (λ made. made ≤ length store.new) }
     ensures extends { Extends store.old store.new }
 {
     let statements = store.turn(processes, 0)?;
-    let end = store.add(Form::Closing, &[], closing, 0, 0)?;
+    let again = add_closing(store, closing)?;
+    let end = store.add(Form::Closing, &[], place_at(foot, 1), again, 0)?;
     let part = store.add(Form::StatementPart, &[], body, statements, end)?;
     let of_entity = add_identifier(store, entity, part)?;
     let names = add_identifier(store, name, of_entity)?;
@@ -149,16 +153,17 @@ fn add_architecture(
 }
 
 /// An architecture behind its word, which has the place, of the entity.
-#[tactic(auto, unfolding(crate::specs::Reader::architecture_at))]
+#[tactic(auto, unfolding(crate::specs::Reader::architecture_at, crate::specs::Reader::body_at))]
 fn architecture_at<'a>(
     store: &mut Store<Form>,
+    revision: Revision,
     known: &KnownNames,
     place: Place,
     entity: &Token,
     allowance: u32,
     tokens: &'a [Token],
 ) -> Result<(u32, &'a [Token]), Stop<'a>>
-    ensures tree { Gives (λ x. (at store.new x.0, x.1.now)) result (architecture_at place entity.now (known_of known.now) allowance tokens.now) }
+    ensures tree { Gives (λ x. (at store.new x.0, x.1.now)) result (architecture_at revision place entity.now (known_of known.now) allowance tokens.now) }
     ensures within { IfOk result (λ x. x.0 ≤ length store.new) }
     ensures extends { Extends store.old store.new }
 {
@@ -167,17 +172,12 @@ fn architecture_at<'a>(
     let (of_entity, rest) = same_name_at(entity, rest)?;
     let (_, rest) = spelled_at(&BODY, rest)?;
     let body = place_at(rest, 0);
-    let (processes, rest) = processes_at(store, known, allowance, rest)?;
+    let (processes, rest) = processes_at(store, revision, known, allowance, rest)?;
     let (foot, rest) = spelled_at(&FOOT, rest)?;
+    let (closing, rest) = closing_at(revision, name, rest)?;
     let (_, rest) = spelled_at(&LAST, rest)?;
     let tree = add_architecture(
-        store,
-        place,
-        name,
-        of_entity,
-        body,
-        processes,
-        place_at(foot, 1),
+        store, place, name, of_entity, body, processes, foot, closing,
     )?;
     Ok((tree, rest))
 }
@@ -242,19 +242,22 @@ fn add_units(
 fn file_at<'a>(
     alloc: Global,
     store: &mut Store<Form>,
+    revision: Revision,
     known: &mut KnownNames,
     allowance: u32,
     tokens: &'a [Token],
 ) -> Result<(u32, &'a [Token]), Stop<'a>>
     requires { known_of known.old ≡ no_names true }
-    ensures tree { Gives (λ x. (at store.new x.0, x.1.now)) result (file_at true allowance tokens.now) }
+    ensures tree { Gives (λ x. (at store.new x.0, x.1.now)) result (file_at revision true allowance tokens.now) }
     ensures within { IfOk result (λ x. x.0 ≤ length store.new) }
 {
     let (head, rest) = spelled_at(&HEAD, tokens)?;
-    let (entity, name, rest) = entity_at(alloc, store, known, head, rest)?;
+    let (entity, name, rest) = entity_at(alloc, store, revision, known, head, rest)?;
     let (middle, rest) = spelled_at(&MIDDLE, rest)?;
     let place = place_at(middle, 1);
-    let (architecture, rest) = architecture_at(store, known, place, name, allowance, rest)?;
+    let (architecture, rest) = architecture_at(
+        store, revision, known, place, name, allowance, rest,
+    )?;
     let units = add_units(store, head, entity, place, architecture)?;
     Ok((units, rest))
 }
@@ -283,36 +286,65 @@ fn end_of(stop: Stop<'_>) -> GrammarEnd
     }
 }
 
-/// How many expressions may stand in one another below a process and its assignment.
 const EXPRESSIONS_LIMIT: u32 = NESTING_LIMIT - 2;
 
+const EXPRESSIONS93_LIMIT: u32 = NESTING93_LIMIT - 2;
+
+/// How many expressions may stand in one another below a process and its assignment.
+fn expressions_limit(revision: Revision) -> u32
+    ensures { result ≡ expressions_limit revision }
+{
+    match revision {
+        Revision::V2019 => EXPRESSIONS_LIMIT,
+        Revision::V1993 => EXPRESSIONS93_LIMIT,
+    }
+}
+
 /// The design units of a token list.
-fn units_of(alloc: Global, store: &mut Store<Form>, tokens: &[Token]) -> Result<u32, GrammarEnd>
+fn units_of(
+    alloc: Global,
+    store: &mut Store<Form>,
+    revision: Revision,
+    tokens: &[Token],
+) -> Result<u32, GrammarEnd>
     requires ends { EndsOnce tokens.now }
-    ensures answer { AnswersReading (λ units. at store.new units) tokens.now result }
+    ensures answer { AnswersReading revision (λ units. at store.new units) tokens.now result }
     ensures within { IfOk result (λ units. units ≤ length store.new) }
 {
     let Ok(mut known) = no_names(alloc) else {
         return Err(GrammarEnd::Memory);
     };
-    match file_at(alloc, store, &mut known, EXPRESSIONS_LIMIT, tokens) {
+    let allowance = expressions_limit(revision);
+    match file_at(alloc, store, revision, &mut known, allowance, tokens) {
         Ok((units, _)) => Ok(units),
         Err(stop) => Err(end_of(stop)),
     }
 }
 
-/// The syntax tree of the tokens of a file, or the first place at which there is none.
+/// The syntax tree of the tokens of a 2019 file, or the first place at which there is none.
 pub fn read19(alloc: Global, tokens: &[Token]) -> Result<Design19, GrammarEnd>
     requires possible { AllByRecursion (IsPossible V2019) tokens.now }
     requires ends { EndsOnce tokens.now }
-    ensures answer { AnswersReading (λ design. design) tokens.now result }
+    ensures answer { AnswersReading V2019 (λ design. design) tokens.now result }
 {
     let mut store = Store::new(alloc);
-    let units = units_of(alloc, &mut store, tokens)?;
+    let units = units_of(alloc, &mut store, Revision::V2019, tokens)?;
     Ok(Design19::of(store, units))
 }
 
-/// A token list has one answer alone, so what `read19` answers is determined, unless memory runs out.
+/// The syntax tree of the tokens of a 1993 file, or the first place at which there is none.
+pub fn read93(alloc: Global, tokens: &[Token]) -> Result<Design93, GrammarEnd>
+    requires possible { AllByRecursion (IsPossible V1993) tokens.now }
+    requires ends { EndsOnce tokens.now }
+    ensures answer { AnswersReading V1993 (λ design. design) tokens.now result }
+{
+    let mut store = Store::new(alloc);
+    let units = units_of(alloc, &mut store, Revision::V1993, tokens)?;
+    Ok(Design93::of(store, units))
+}
+
+/// A token list has one answer alone in each revision, so what `read19` and `read93` answer is determined, unless memory
+/// runs out.
 pub fn one_reading()
     ensures { OneReading }
 {}
@@ -322,9 +354,9 @@ mod tests {
     use super::*;
     use std::test::Fail;
     use vd_bytes::Text;
-    use vd_lex::tokens::{ARROW, COLON, NOT, OUT, PROCESS};
+    use vd_lex::tokens::{ARROW, COLON, COMMA, Kind, NOT, OUT, PROCESS};
 
-    const FRONT: [(Kind, &[u8]); 44] = [
+    const ENTITY_TOKENS: [(Kind, &[u8]); 23] = [
         (Kind::Word(LIBRARY), b""),
         (Kind::Name, b"ieee"),
         (Kind::Mark(SEMICOLON), b""),
@@ -348,6 +380,9 @@ mod tests {
         (Kind::Mark(SEMICOLON), b""),
         (Kind::Word(END), b""),
         (Kind::Word(ENTITY), b""),
+    ];
+
+    const ARCHITECTURE_TOKENS: [(Kind, &[u8]); 9] = [
         (Kind::Mark(SEMICOLON), b""),
         (Kind::Word(ARCHITECTURE), b""),
         (Kind::Name, b"r"),
@@ -357,8 +392,19 @@ mod tests {
         (Kind::Word(BEGIN), b""),
         (Kind::Word(PROCESS), b""),
         (Kind::Mark(OPENING), b""),
-        (Kind::Word(ALL), b""),
+    ];
+
+    const ALL_TOKENS: [(Kind, &[u8]); 2] = [(Kind::Word(ALL), b""), (Kind::Mark(CLOSING), b"")];
+
+    const LIST_TOKENS: [(Kind, &[u8]); 5] = [
+        (Kind::Name, b"c"),
+        (Kind::Mark(COMMA), b""),
+        (Kind::Name, b"d"),
         (Kind::Mark(CLOSING), b""),
+        (Kind::Word(IS), b""),
+    ];
+
+    const STATEMENT_TOKENS: [(Kind, &[u8]); 11] = [
         (Kind::Word(BEGIN), b""),
         (Kind::Name, b"y"),
         (Kind::Mark(ARROW), b""),
@@ -369,21 +415,20 @@ mod tests {
         (Kind::Word(PROCESS), b""),
         (Kind::Mark(SEMICOLON), b""),
         (Kind::Word(END), b""),
-    ];
-
-    const TAIL: [(Kind, &[u8]); 3] = [
         (Kind::Word(ARCHITECTURE), b""),
-        (Kind::Mark(SEMICOLON), b""),
-        (Kind::End, b""),
     ];
 
-    #[test]
-    fn memory_suffices(rt: HostRuntime) -> Result<(), Fail> {
-        let mut tokens = Vec::new(rt.alloc());
-        for (kind, text) in FRONT.iter().chain(TAIL.iter()) {
+    const LAST_TOKENS: [(Kind, &[u8]); 2] = [(Kind::Mark(SEMICOLON), b""), (Kind::End, b"")];
+
+    fn push_all(
+        alloc: Global,
+        tokens: &mut Vec<Token>,
+        more: &[(Kind, &[u8])],
+    ) -> Result<(), AllocError> {
+        for (kind, text) in more.iter() {
             tokens.push(Token {
                 kind: *kind,
-                text: Text::from_slice(rt.alloc(), text)?,
+                text: Text::from_slice(alloc, text)?,
                 place: Place {
                     file: 0,
                     line: 1,
@@ -391,16 +436,43 @@ mod tests {
                 },
             })?;
         }
-        let mut store = Store::new(rt.alloc());
-        let mut known = no_names(rt.alloc())?;
-        let read = file_at(
-            rt.alloc(),
-            &mut store,
-            &mut known,
-            EXPRESSIONS_LIMIT,
-            tokens.as_slice(),
-        );
-        assert!(rt; read.is_ok());
+        Ok(())
+    }
+
+    fn is_read(alloc: Global, revision: Revision, tokens: &[Token]) -> Result<bool, AllocError> {
+        let mut store = Store::new(alloc);
+        let mut known = no_names(alloc)?;
+        let allowance = expressions_limit(revision);
+        let read = file_at(alloc, &mut store, revision, &mut known, allowance, tokens);
+        Ok(read.is_ok())
+    }
+
+    #[test]
+    fn memory_suffices(rt: HostRuntime) -> Result<(), Fail> {
+        let mut tokens = Vec::new(rt.alloc());
+        push_all(rt.alloc(), &mut tokens, &ENTITY_TOKENS)?;
+        push_all(rt.alloc(), &mut tokens, &ARCHITECTURE_TOKENS)?;
+        push_all(rt.alloc(), &mut tokens, &ALL_TOKENS)?;
+        push_all(rt.alloc(), &mut tokens, &STATEMENT_TOKENS)?;
+        push_all(rt.alloc(), &mut tokens, &LAST_TOKENS)?;
+        assert!(rt; is_read(rt.alloc(), Revision::V2019, tokens.as_slice())?);
+        assert!(rt; !is_read(rt.alloc(), Revision::V1993, tokens.as_slice())?);
+        Ok(())
+    }
+
+    // Closing names, a list of two names and the word `is`.
+    #[test]
+    fn what_1993_adds_is_read(rt: HostRuntime) -> Result<(), Fail> {
+        let mut tokens = Vec::new(rt.alloc());
+        push_all(rt.alloc(), &mut tokens, &ENTITY_TOKENS)?;
+        push_all(rt.alloc(), &mut tokens, &[(Kind::Name, b"e")])?;
+        push_all(rt.alloc(), &mut tokens, &ARCHITECTURE_TOKENS)?;
+        push_all(rt.alloc(), &mut tokens, &LIST_TOKENS)?;
+        push_all(rt.alloc(), &mut tokens, &STATEMENT_TOKENS)?;
+        push_all(rt.alloc(), &mut tokens, &[(Kind::Name, b"r")])?;
+        push_all(rt.alloc(), &mut tokens, &LAST_TOKENS)?;
+        assert!(rt; is_read(rt.alloc(), Revision::V1993, tokens.as_slice())?);
+        assert!(rt; !is_read(rt.alloc(), Revision::V2019, tokens.as_slice())?);
         Ok(())
     }
 }

@@ -1,12 +1,13 @@
 //! Reading one token, or a run of known ones.
 
-ghost use Rattle.std.specs.Prelude.{◌≡◌, map};
+ghost use Rattle.std.specs.Prelude.{◌≡◌, map, option_copied};
 ghost use Rattle.vd_grammar19.specs.Given.{Gives, symbol_of};
 ghost use Rattle.vd_grammar19.specs.Symbols.{word, mark};
-ghost use Rattle.vd_grammar19.specs.Reader.{is, is_name, token_at, spelled_at, begins};
+ghost use Rattle.vd_grammar19.specs.Reader.{is, is_name, is_same_name, token_at, spelled_at, begins, optional_at};
 
 use std::alloc::AllocError;
-use vd_lex::tokens::{Kind, Token};
+use vd_lex::tokens::{IS, Kind, Token};
+use vd_trees::Revision;
 
 /// Why reading stopped, and the tokens from where it did: no text goes on with the first of them, or it is too deep.
 #[derive(Debug, Drop)]
@@ -78,17 +79,6 @@ pub(crate) fn spelled_at<'a>(
     Ok((front, rest))
 }
 
-/// A name, and the tokens behind it.
-#[tactic(auto, unfolding(crate::specs::Reader::token_at))]
-pub(crate) fn name_at<'a>(tokens: &'a [Token]) -> Result<(&'a Token, &'a [Token]), Stop<'a>>
-    ensures { Gives (λ x. (x.0.now, x.1.now)) result (token_at is_name tokens.now) }
-{
-    match tokens {
-        [first, rest @ ..] if matches!(first.kind, Kind::Name) => Ok((first, rest)),
-        _ => Err(Stop::Hopeless(tokens)),
-    }
-}
-
 /// Whether the first token is what a production names.
 pub(crate) fn begins(expected: Expected, tokens: &[Token]) -> bool
     ensures { result ≡ begins (is (symbol_of expected)) tokens.now }
@@ -106,5 +96,62 @@ pub(crate) fn begins_name(tokens: &[Token]) -> bool
     match tokens {
         [first, ..] => matches!(first.kind, Kind::Name),
         [] => false,
+    }
+}
+
+/// A name that is this one, and the tokens behind it.
+#[tactic(auto, unfolding(crate::specs::Reader::token_at))]
+pub(crate) fn same_name_at<'a>(
+    name: &Token,
+    tokens: &'a [Token],
+) -> Result<(&'a Token, &'a [Token]), Stop<'a>>
+    ensures { Gives (λ x. (x.0.now, x.1.now)) result (token_at (is_same_name name.now.text) tokens.now) }
+{
+    match tokens {
+        [first, rest @ ..]
+            if matches!(first.kind, Kind::Name) && first.text.as_slice() == name.text.as_slice() =>
+            Ok((first, rest)),
+        _ => Err(Stop::Hopeless(tokens)),
+    }
+}
+
+/// The name of a unit that is closed, which only revision 1993 may have here, and the tokens behind it.
+#[tactic(auto, unfolding(crate::specs::Reader::optional_at))]
+pub(crate) fn closing_at<'a>(
+    revision: Revision,
+    name: &Token,
+    tokens: &'a [Token],
+) -> Result<(Option<&'a Token>, &'a [Token]), Stop<'a>>
+    ensures { Gives (λ x. (option_copied x.0, x.1.now)) result (optional_at revision is_name (is_same_name name.now.text) tokens.now) }
+{
+    match revision {
+        Revision::V2019 => Ok((None, tokens)),
+        Revision::V1993 => {
+            if !begins_name(tokens) {
+                return Ok((None, tokens));
+            }
+            let (closing, rest) = same_name_at(name, tokens)?;
+            Ok((Some(closing), rest))
+        }
+    }
+}
+
+/// The word `is`, which only revision 1993 may have here, and the tokens behind it.
+#[tactic(auto, unfolding(crate::specs::Reader::optional_at))]
+pub(crate) fn is_at<'a>(
+    revision: Revision,
+    tokens: &'a [Token],
+) -> Result<(Option<&'a Token>, &'a [Token]), Stop<'a>>
+    ensures { Gives (λ x. (option_copied x.0, x.1.now)) result (optional_at revision (is (word IS)) (is (word IS)) tokens.now) }
+{
+    match revision {
+        Revision::V2019 => Ok((None, tokens)),
+        Revision::V1993 => {
+            if !begins(Expected::Word(IS), tokens) {
+                return Ok((None, tokens));
+            }
+            let (word, rest) = expected_at(Expected::Word(IS), tokens)?;
+            Ok((Some(word), rest))
+        }
     }
 }

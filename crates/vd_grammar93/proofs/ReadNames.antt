@@ -1,8 +1,8 @@
 -- The names that a process reads, each once, are those of its value.
-use Rattle.std.proofs.Common.{◌≡◌, ℕ, Bool, true, false, List, [], ◌∷◌, ◌++◌, refl, sym, ap, ◌∙◌}
+use Rattle.std.proofs.Common.{◌≡◌, ℕ, Bool, true, false, List, [], ◌∷◌, ◌++◌, refl, ap, ◌∙◌}
 use Rattle.std.specs.Prelude.{if◌then◌else◌}
 use Rattle.std.specs.List.{AllByRecursion}
-use Rattle.vd_forest.specs.Forest.{Forest, nothing, more, joined}
+use Rattle.vd_forest.specs.Forest.{Forest, nothing, more}
 use Rattle.vd_forest.specs.Texts.{with_text}
 use Rattle.vd_forest.proofs.ForestLemmas.{joined_nothing}
 use Rattle.vd_trees.specs.declared.form.Form.{Form}
@@ -12,23 +12,8 @@ use Rattle.vd_grammar19.specs.Derivations.{Expression, name, brackets, inverted,
 use Rattle.vd_grammar19.specs.Conditions.{expression_names}
 use Rattle.vd_grammar19.specs.Shapes.{identifier, expression_shape, name_nodes, assignment_shape}
 use Rattle.vd_passes.specs.Lowering.{names_in, is_among, unless, firsts, read_set}
+use Rattle.vd_accept.proofs.ExpressionNames.{expression_named}
 use Rattle.vd_grammar93.proofs.WrittenFile.{first_name, other_names, once, read_once}
-
--- ---- the names of a tree
-
-pub name_nodes-append : (ts us : List Token) → name_nodes (ts ++ us) ≡ joined (name_nodes ts) (name_nodes us)
-name_nodes-append [] us = refl
-name_nodes-append (t ∷ ts) us = ap (more form.Name [] t.place (identifier t nothing)) (name_nodes-append ts us)
-
-pub expression_named : (e : Expression) (next : Forest Form) → names_in (expression_shape e next) ≡ joined (name_nodes (expression_names e)) (names_in next)
-expression_named (name t) next = refl
-expression_named (brackets o e c) next = expression_named e next
-expression_named (inverted w e) next = ap (λ f. joined f (names_in next)) (expression_named e nothing ∙ joined_nothing (name_nodes (expression_names e)))
-expression_named (conjoined e w f) next =
-    ap (λ g. joined g (names_in next))
-    (expression_named e (expression_shape f nothing)
-    ∙ ap (joined (name_nodes (expression_names e))) (expression_named f nothing ∙ joined_nothing (name_nodes (expression_names f)))
-    ∙ sym (name_nodes-append (expression_names e) (expression_names f)))
 
 pub names_begin : (e : Expression) → expression_names e ≡ first_name e ∷ other_names e
 names_begin (name t) = refl

@@ -14,5 +14,5 @@ use Rattle.vd_grammar93.proofs.Given.{parts_given}
 
 pub written_are_given : WrittenAreGiven
 written_are_given ts f possible is tokens conditions known =
-    let valid = file_valid f is (subst (AllByRecursion (IsPossible V2019)) (sym tokens) possible) in
+    let valid = file_valid V2019 f is (subst (AllByRecursion (IsPossible V2019)) (sym tokens) possible) in
     parts_given form.StatementPart First file_slots (written_tree f) (written_valid file_slots (file_shape f) valid)

@@ -4,6 +4,7 @@ pub mod Equations
 pub mod Currents
 pub mod EarliestTimes
 pub mod FirstTransactions
+pub mod HistoryLemmas
 pub mod ListPairs
 pub mod MarkedWaveforms
 pub mod OneView

@@ -4,12 +4,13 @@ use Rattle.std.specs.Prelude.{if◌then◌else◌, ◌||◌, ◌==◌, is_some}
 use Rattle.std.specs.List.{AllZip}
 use Rattle.vd_kernel.specs.Drivers.{advanced}
 use Rattle.vd_kernel.specs.Models.{View, Start, Wake, Paused, Turn, Model, Stimulus}
+use Rattle.vd_kernel.specs.Values.{driving}
 use Rattle.vd_kernel.specs.Cycles.{State, first_view, next_view, has_event, is_due, waiting_still, turn, first_drivers, initialised, cycle}
 use Rattle.vd_kernel.specs.Traces.{Trace, at_next, trace_from, unless_two, trace}
 use Rattle.vd_kernel.specs.Correspondence.{BothOrNone, SameView, SamePaused, SameTurn, Corresponds, SameStimulus, SameTrace, SameRun}
 use Rattle.vd_kernel.specs.States.{SameState, SameMoment, SameSteps}
 use Rattle.vd_kernel.proofs.ListPairs.{same_list_any, AllZip-maps}
-use Rattle.vd_kernel.proofs.SameValues.{same_first_view, same_next_view, same_first_drivers}
+use Rattle.vd_kernel.proofs.SameValues.{same_driving, same_first_view, same_next_view, same_first_drivers}
 use Rattle.vd_kernel.proofs.SameRounds.{same_round, same_next_time, same_state_after, same_moment_on}
 
 module _ {P Q : Type 0} (joined : ℕ → ℕ → Type 0) (related : P → Q → Type 0) (m : Model P) (n : Model Q) (same : Corresponds joined related m n) (given other : Stimulus) (stimulus : SameStimulus joined given other) where
@@ -101,6 +102,7 @@ same_steps joined related m n same =
       first = λ given other stimulus. same_initialised joined related m n same given other stimulus;
       next = same_next_time joined related;
       cycles = λ given other stimulus. same_cycle joined related m n same given other stimulus;
+      driving_values = λ given other stimulus s t z i j e. same_driving joined m.shape n.shape same.shape given other stimulus s.drivers i j e ∙ ap (λ ds. driving n.shape other ds j) z.drivers;
       after = same_state_after joined related;
     }
 

@@ -2,6 +2,7 @@
 use Rattle.std.specs.Prelude.{◌≡◌, ℕ}
 use Rattle.std.specs.List.{AllZip}
 use Rattle.vd_kernel.specs.Models.{Model, Stimulus}
+use Rattle.vd_kernel.specs.Values.{driving}
 use Rattle.vd_kernel.specs.Cycles.{State, Round, Moment, next_time, initialised, cycle, state_after}
 use Rattle.vd_kernel.specs.Correspondence.{SameView, SamePaused, SameStimulus}
 
@@ -29,10 +30,13 @@ pub record SameMoment {P Q : Type 0} (joined : ℕ → ℕ → Type 0) (related 
   pub round : SameRound joined related x.round y.round
 
 -- Two designs go through the same states: initialisation is the same step of both, and from corresponding states the next time is the
--- same, and so is the step at any time. What a step leaves, where nothing stops, corresponds again (`state_after`).
+-- same, and so is the step at any time. What a step leaves, where nothing stops, corresponds again (`state_after`). In corresponding
+-- states joined signals have equal driving values too.
 pub record SameSteps {P Q : Type 0} (joined : ℕ → ℕ → Type 0) (related : P → Q → Type 0) (m : Model P) (n : Model Q) : Type 0 where
   pub first : (given other : Stimulus) → SameStimulus joined given other → SameMoment joined related (initialised m given) (initialised n other)
   pub next : (s : State P) (t : State Q) → SameState joined related s t → next_time s ≡ next_time t
   pub cycles : (given other : Stimulus) → SameStimulus joined given other
       → (s : State P) (t : State Q) → SameState joined related s t → (now : ℕ) → SameMoment joined related (cycle m given s now) (cycle n other t now)
+  pub driving_values : (given other : Stimulus) → SameStimulus joined given other
+      → (s : State P) (t : State Q) → SameState joined related s t → (i j : ℕ) → joined i j → driving m.shape given s.drivers i ≡ driving n.shape other t.drivers j
   pub after : (x : Moment P) (y : Moment Q) → SameMoment joined related x y → SameState joined related (state_after x) (state_after y)

@@ -200,6 +200,10 @@ module _ (r : Revision) where
   refused_at s (Refused e) h = (h.0, breaks_at s e.place h.1)
   refused_at s Memory h = tt
 
+-- the same, said of an equal revision
+pub refused_in : (r q : Revision) → r ≡ q → (s : Selected) (e : Refusal) → IsBreakWithin r (spots_of s.file s.lines) e → IsBreakOf q s e
+refused_in r q same s e h = subst (λ x. IsBreakOf x s e) same (refused_at r s e h)
+
 -- ---- lines
 
 -- the spots of the lines from one on

@@ -4,6 +4,7 @@ use Rattle.std.proofs.lemmas.Bool.{cond-true, false_from_ne_true}
 use Rattle.std.proofs.lemmas.Bool.Decides.{Decides-eqb}
 use Rattle.std.proofs.Common.{true≢false}
 use Rattle.vd_trees.specs.declared.revision.Revision.{Revision}
+use Rattle.vd_trees.specs.declared.revision.Revision.TheVariants.{V2019}
 use Rattle.vd_trees.specs.Identifiers.{is_letter, is_name, lowered, place_among}
 use Rattle.vd_trees.specs.Words.{reserved_words}
 use Rattle.vd_lex.specs.declared.tokens.Kind.TheVariants.{Mark}
@@ -11,6 +12,10 @@ use Rattle.vd_lex.specs.Lexis.{marks_taken, word_or_name, kind_of}
 use Rattle.vd_lex.specs.Scans.{IsLongestName, BeginsToken, BeginsNone}
 
 module _ (r : Revision) where
+  -- the revisions differ in what a name is, and in nothing else
+  pub same_kind : (b : ℕ) (more : List ℕ) → is_letter b ≡ false → kind_of r (b ∷ more) ≡ kind_of V2019 (b ∷ more)
+  same_kind b more other = rw other refl
+
   -- where no token begins with the first byte, none stands at the front
   pub none_begins : (bs : List ℕ) → 0 < length bs → ((more : List ℕ) → kind_of r (slice_index bs 0 ∷ more) ≡ None) → BeginsNone r bs
   none_begins [] h none behind front rest e = absurd (omega arith)

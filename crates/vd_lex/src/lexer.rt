@@ -1,8 +1,9 @@
-//! The lexer of revision 2019.
+//! The lexer of both revisions.
 
 ghost use Rattle.std.specs.Prelude.{◌≡◌, ◌≢◌, ℕ, ◌+◌, ◌*◌, ◌<◌, ◌≤◌, ◌^◌, true, false, List, [], ◌∷◌, ◌++◌, length, drop, slice_index, Some, None, IfSome, IfNone, IfOk, IfErr, OnOk};
 ghost use Rattle.std.specs.List.{AllByRecursion};
-ghost use Rattle.vd_trees.specs.declared.revision.Revision.TheVariants.{V2019};
+ghost use Rattle.vd_trees.specs.declared.revision.Revision.{Revision};
+ghost use Rattle.vd_trees.specs.declared.revision.Revision.TheVariants.{V2019, V1993};
 ghost use Rattle.vd_trees.specs.Identifiers as identifiers;
 ghost use Rattle.vd_lex.specs.declared.tokens.Kind.TheVariants.{Mark};
 ghost use Rattle.vd_lex.specs.Lexis as lexis;
@@ -16,6 +17,7 @@ use crate::selected::{Line, Selected};
 use crate::tokens::{ARROW, CLOSING, COLON, COMMA, Kind, OPENING, POINT, SEMICOLON, Token};
 use std::alloc::{AllocError, Global};
 use vd_bytes::{Place, Refusal, Refused, Text};
+use vd_trees::Revision;
 
 fn is_spacing(b: u8) -> bool
     ensures { result ≡ lexis.is_spacing b }
@@ -57,7 +59,7 @@ fn name_length(rest: &[u8]) -> usize
     n
 }
 
-/// The number of a mark of one byte.
+/// The number of a mark of one byte. The revisions have the same marks, so it is said of one of them.
 fn single_mark(b: u8) -> Option<u16>
     requires other { identifiers.is_letter b ≡ false }
     requires no_arrow { b ≢ 60 }
@@ -81,8 +83,8 @@ fn single_mark(b: u8) -> Option<u16>
 fn mark(rest: &[u8]) -> Option<(u16, usize)>
     requires some { 0 < length rest.now }
     requires other { identifiers.is_letter (slice_index rest.now 0) ≡ false }
-    ensures found { IfSome result (λ m. BeginsToken V2019 rest.now m.1 (Mark m.0)) }
-    ensures none { IfNone result (BeginsNone V2019 rest.now) }
+    ensures found { IfSome result (λ m. (r : Revision) → BeginsToken r rest.now m.1 (Mark m.0)) }
+    ensures none { IfNone result ((r : Revision) → BeginsNone r rest.now) }
 {
     if rest[0] == b'<' {
         if rest.len() > 1 && rest[1] == b'=' {
@@ -116,35 +118,37 @@ fn lower_into(buffer: &mut Vec<u8>, text: &[u8]) -> Result<(), AllocError>
     Ok(())
 }
 
-/// What a run of the lexer holds: the table of words, a buffer for a name, and the tokens that are read.
+/// What a run of the lexer holds: a buffer for a name, and the tokens that are read.
 #[derive(Drop)]
 struct Lexer {
     alloc: Global,
-    words: ReservedWords,
     lowered: Vec<u8>,
     tokens: Vec<Token>,
 }
 
 impl Lexer {
-    fn new(alloc: Global) -> Result<Lexer, AllocError>
-        ensures { IfOk result (λ l. l.tokens.items ≡ []) }
+    fn new(alloc: Global) -> Lexer
+        ensures { result.tokens.items ≡ [] }
     {
-        let words = ReservedWords::new(alloc)?;
-        Ok(Lexer {
+        Lexer {
             alloc,
-            words,
             lowered: Vec::new(alloc),
             tokens: Vec::new(alloc),
-        })
+        }
     }
 
     /// Adds the token of a name or of a reserved word.
-    fn add_name(&mut self, place: Place, text: &[u8]) -> Result<(), AllocError>
-        ensures { OnOk result (self.new.tokens.items
-            ≡ self.old.tokens.items ++ token_at place (kind_of_name V2019 text.now) text.now ∷ []) }
+    fn add_name(
+        &mut self,
+        words: &ReservedWords,
+        place: Place,
+        text: &[u8],
+    ) -> Result<(), AllocError>
+        ensures { OnOk result (self.new.tokens.items ≡ self.old.tokens.items
+            ++ token_at place (kind_of_name words.now.revision text.now) text.now ∷ []) }
     {
         lower_into(&mut self.lowered, text)?;
-        let token = match self.words.number_of(&self.lowered) {
+        let token = match words.number_of(&self.lowered) {
             Some(n) => Token {
                 kind: Kind::Word(n),
                 text: Text::from_slice(self.alloc, &[])?,
@@ -171,19 +175,26 @@ impl Lexer {
     }
 
     /// Reads one piece of a line: a byte of spacing or a token. It answers the piece's length.
-    fn read_piece(&mut self, place: Place, rest: &[u8]) -> Result<usize, Refusal>
+    fn read_piece(
+        &mut self,
+        words: &ReservedWords,
+        place: Place,
+        rest: &[u8],
+    ) -> Result<usize, Refusal>
         requires { 0 < length rest.now }
         ensures within { IfOk result (λ n. (0 < n) × (n ≤ length rest.now)) }
-        ensures read { IfOk result (λ n. ReadsTokens V2019 self.old.tokens.items self.new.tokens.items
+        ensures read { IfOk result
+            (λ n. ReadsTokens words.now.revision self.old.tokens.items self.new.tokens.items
             (spots_from place rest.now) (spots_from (moved place n) (drop n rest.now))) }
-        ensures broken { IfErr result (IsBreakWithin V2019 (spots_from place rest.now)) }
+        ensures broken { IfErr result
+            (IsBreakWithin words.now.revision (spots_from place rest.now)) }
     {
         if is_spacing(rest[0]) {
             return Ok(1);
         }
         if is_letter(rest[0]) {
             let n = name_length(rest);
-            self.add_name(place, &rest[..n])
+            self.add_name(words, place, &rest[..n])
                 .map_err(|_| Refusal::Memory)?;
             return Ok(n);
         }
@@ -198,12 +209,13 @@ impl Lexer {
     }
 
     /// Reads a line.
-    fn read_line(&mut self, file: u32, line: &Line) -> Result<(), Refusal>
+    fn read_line(&mut self, words: &ReservedWords, file: u32, line: &Line) -> Result<(), Refusal>
         requires { length line.now.bytes + 1 < 2 ^ 32 }
-        ensures read { OnOk result (ReadsTokens V2019 self.old.tokens.items self.new.tokens.items
+        ensures read { OnOk result
+            (ReadsTokens words.now.revision self.old.tokens.items self.new.tokens.items
             (line_spots file line.now.number 1 line.now.bytes) []) }
-        ensures broken { IfErr result
-            (IsBreakWithin V2019 (line_spots file line.now.number 1 line.now.bytes)) }
+        ensures broken { IfErr result (IsBreakWithin words.now.revision
+            (line_spots file line.now.number 1 line.now.bytes)) }
     {
         let mut rest = line.bytes.as_slice();
         let mut place = Place {
@@ -212,7 +224,7 @@ impl Lexer {
             column: 1,
         };
         while !rest.is_empty() {
-            let n = self.read_piece(place, rest)?;
+            let n = self.read_piece(words, place, rest)?;
             let (_, after) = rest.split_at(n);
             rest = after;
             place.column += n as u32;
@@ -240,7 +252,31 @@ fn end_of(text: &Selected) -> Place
     }
 }
 
-/// The tokens of a text, with the end of the file behind them.
+/// The tokens of a text of some revision.
+fn lex(alloc: Global, revision: Revision, text: &Selected) -> Result<Vec<Token>, Refusal>
+    requires { ColumnsFit text.now }
+    ensures read { IfOk result (λ v. IsTokenList revision text.now v.items) }
+    ensures possible { IfOk result (λ v. AllByRecursion (IsPossible revision) v.items) }
+    ensures ends { IfOk result (λ v. EndsOnce v.items) }
+    ensures broken { IfErr result (IsBreakOf revision text.now) }
+{
+    let words = ReservedWords::new(alloc, revision).map_err(|_| Refusal::Memory)?;
+    let mut lexer = Lexer::new(alloc);
+    for line in text.lines.as_slice() {
+        lexer.read_line(&words, text.file, line)?;
+    }
+    lexer
+        .add_mark(end_of(text), Kind::End)
+        .map_err(|_| Refusal::Memory)?;
+    let Lexer {
+        alloc: _,
+        lowered: _,
+        tokens,
+    } = lexer;
+    Ok(tokens)
+}
+
+/// The tokens of a 2019 text, with the end of the file behind them.
 pub fn lex19(alloc: Global, text: &Selected) -> Result<Vec<Token>, Refusal>
     requires { ColumnsFit text.now }
     ensures read { IfOk result (λ v. IsTokenList V2019 text.now v.items) }
@@ -248,23 +284,21 @@ pub fn lex19(alloc: Global, text: &Selected) -> Result<Vec<Token>, Refusal>
     ensures ends { IfOk result (λ v. EndsOnce v.items) }
     ensures broken { IfErr result (IsBreakOf V2019 text.now) }
 {
-    let mut lexer = Lexer::new(alloc).map_err(|_| Refusal::Memory)?;
-    for line in text.lines.as_slice() {
-        lexer.read_line(text.file, line)?;
-    }
-    lexer
-        .add_mark(end_of(text), Kind::End)
-        .map_err(|_| Refusal::Memory)?;
-    let Lexer {
-        alloc: _,
-        words: _,
-        lowered: _,
-        tokens,
-    } = lexer;
-    Ok(tokens)
+    lex(alloc, Revision::V2019, text)
 }
 
-/// A text is read in one way only. So the answers of `lex19` are the only ones.
+/// The tokens of a 1993 text, with the end of the file behind them.
+pub fn lex93(alloc: Global, text: &Selected) -> Result<Vec<Token>, Refusal>
+    requires { ColumnsFit text.now }
+    ensures read { IfOk result (λ v. IsTokenList V1993 text.now v.items) }
+    ensures possible { IfOk result (λ v. AllByRecursion (IsPossible V1993) v.items) }
+    ensures ends { IfOk result (λ v. EndsOnce v.items) }
+    ensures broken { IfErr result (IsBreakOf V1993 text.now) }
+{
+    lex(alloc, Revision::V1993, text)
+}
+
+/// A text is read in one way only. So the answers of `lex19` and `lex93` are the only ones.
 pub fn one_lexing()
     ensures { HasOneLexing }
 {}

@@ -8,7 +8,7 @@ pub mod selected;
 pub mod spellings;
 pub mod tokens;
 
-pub use lexer::{lex19, one_lexing};
+pub use lexer::{lex19, lex93, one_lexing};
 pub use lines::plain;
 pub use selected::{Line, Lines, Selected};
 pub use spellings::spelling;

@@ -1,14 +1,14 @@
-//! The reserved words of revision 2019, found by their text.
+//! The reserved words of a revision, found by their text.
 
 ghost use Rattle.std.specs.Prelude.{◌≡◌, [], map, IfOk};
 ghost use Rattle.std.specs.Str.{bytes_eq};
 ghost use Rattle.indexmap.specs.IndexSet.{insert_all};
 ghost use Rattle.vd_trees.specs.Identifiers.{place_among};
 ghost use Rattle.vd_trees.specs.Words.{reserved_words};
-ghost use Rattle.vd_trees.specs.declared.revision.Revision.TheVariants.{V2019};
 
 use indexmap::IndexSet;
 use std::alloc::{AllocError, Global};
+use vd_trees::Revision;
 
 /// The words in their order: those of revision 1993, and behind them those that revision 2019 adds.
 pub(crate) static WORDS: [&str; 115] = [
@@ -129,11 +129,15 @@ pub(crate) static WORDS: [&str; 115] = [
     "vunit",
 ];
 
-/// The reserved words, to be looked up.
+/// How many words revision 1993 has.
+const COUNT_1993: usize = 97;
+
+/// The reserved words of a revision, to be looked up.
 #[derive(Drop)]
 pub struct ReservedWords {
+    pub revision: Revision,
     set: IndexSet<&'static [u8]>,
-    ghost are_the_words: { map (λ w. w.now) set.keys ≡ reserved_words V2019 },
+    ghost are_the_words: { map (λ w. w.now) set.keys ≡ reserved_words revision },
 }
 
 /// A set of these texts.
@@ -150,14 +154,24 @@ fn set_of(alloc: Global, words: &[&'static str]) -> Result<IndexSet<&'static [u8
 
 impl ReservedWords {
     /// The table, which is built once for a text.
-    pub fn new(alloc: Global) -> Result<ReservedWords, AllocError> {
-        let set = set_of(alloc, &WORDS)?;
-        Ok(ReservedWords { set })
+    pub fn new(alloc: Global, revision: Revision) -> Result<ReservedWords, AllocError>
+        ensures { IfOk result (λ w. w.revision ≡ revision) }
+    {
+        match revision {
+            Revision::V2019 => {
+                let set = set_of(alloc, &WORDS)?;
+                Ok(ReservedWords { revision, set })
+            }
+            Revision::V1993 => {
+                let set = set_of(alloc, &WORDS[..COUNT_1993])?;
+                Ok(ReservedWords { revision, set })
+            }
+        }
     }
 
     /// The number of a word that is in lower case, if it is reserved.
     pub fn number_of(&self, word: &[u8]) -> Option<u16>
-        ensures { result ≡ place_among (reserved_words V2019) word.now }
+        ensures { result ≡ place_among (reserved_words self.now.revision) word.now }
     {
         match self.set.get_index_of(word) {
             Some(n) => Some(n as u16),

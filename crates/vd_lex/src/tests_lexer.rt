@@ -2,7 +2,7 @@
 
 ghost use Rattle.std.specs.Prelude.{◌<◌, length};
 
-use crate::lexer::lex19;
+use crate::lexer::{lex19, lex93};
 use crate::lines::plain;
 use crate::tokens::{ALL, AND, ARROW, ENTITY, IS, Kind, LIBRARY, Token};
 use std::alloc::Global;
@@ -66,6 +66,22 @@ fn upper_case_and_line_ends(rt: HostRuntime) -> Result<(), Fail> {
     assert_eq!(rt; tokens[2].kind, Kind::Word(IS));
     assert_eq!(rt; tokens[2].place, place(2, 2));
     assert_eq!(rt; tokens[3].place, place(2, 4));
+    Ok(())
+}
+
+#[test]
+fn words_of_each_revision(rt: HostRuntime) -> Result<(), Fail> {
+    let text = plain(rt.alloc(), 0, b"view with vunit")?;
+    let of_2019 = lex19(rt.alloc(), &text)?;
+    let of_1993 = lex93(rt.alloc(), &text)?;
+    assert_eq!(rt; of_2019.len(), 4);
+    assert_eq!(rt; of_1993.len(), 4);
+    assert_eq!(rt; of_2019[0].kind, Kind::Word(111));
+    assert_eq!(rt; of_1993[0].kind, Kind::Name);
+    assert_eq!(rt; of_1993[0].text.as_slice(), b"view".as_slice());
+    assert_eq!(rt; of_2019[1].kind, Kind::Word(94));
+    assert_eq!(rt; of_1993[1].kind, Kind::Word(94));
+    assert_eq!(rt; of_1993[2].kind, Kind::Name);
     Ok(())
 }
 

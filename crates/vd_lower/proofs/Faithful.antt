@@ -26,10 +26,11 @@ use Rattle.vd_correspondence.specs.WholeMaps.{IsWholeFor, IsWholeMap, HasTops}
 use Rattle.vd_correspondence.specs.SameRuns.{IsSameRunFor, HaveSameRun}
 use Rattle.vd_correspondence.specs.Laws.{IsFile19}
 use Rattle.vd_correspondence.proofs.FileLemmas.{same_elaboration, same_interface, map_whole, interface_kept, files_have_tops}
-use Rattle.vd_correspondence.proofs.FileRunLemmas.{writing_keeps_run}
+use Rattle.vd_correspondence.specs.SameTraces.{ShowSameFor, TreesShowSame}
+use Rattle.vd_correspondence.proofs.FileRunLemmas.{writing_keeps_run, writing_keeps_traces}
 use Rattle.vd_unambiguous.proofs.OneDerivation.{one_file}
 use Rattle.vd_lower.specs.declared.conversion.Converted.{Converted}
-use Rattle.vd_lower.specs.declared.conversion.ConvertEnd.{ConvertEnd}
+use Rattle.vd_accept.specs.declared.acceptance.ConvertEnd.{ConvertEnd}
 use Rattle.vd_lower.specs.Conversions.{IsConverted, Converts}
 use Rattle.vd_lower.specs.Headline.{IsText, IsDesign, IsLaidOut, IsFaithful}
 use Rattle.vd_lower.proofs.LaidOut.{split_last, same_layout}
@@ -129,6 +130,17 @@ module _ (s : Selected) (design : List ℕ) (rows : List Row) (units : ℕ) (c :
             (subst (λ rs. IsSameRunFor rs (elaboration (file_shape file) top) (elaboration (written_tree file) top)) (sym c.rows_are) (run.for_each top)));
       }
 
+  same_traces : (f g : File) → IsText V2019 s f → IsDesign design g → TreesShowSame (file_shape f) (file_shape g)
+  same_traces f g t d =
+      let tree = tree_of_design g d in
+      let source = sym (tree_of_source f t) in
+      let shown = writing_keeps_traces file is_19 in
+      record {
+        for_each = λ top.
+            subst (λ n. ShowSameFor (elaboration (file_shape f) top) n) (sym (same_elaboration (file_shape g) (written_tree file) tree top))
+            (subst (λ h. ShowSameFor (elaboration (file_shape h) top) (elaboration (written_tree file) top)) source (shown.for_each top));
+      }
+
   interface : (f g : File) → IsText V2019 s f → IsDesign design g → interface_of (file_shape g) ≡ interface_of (file_shape f)
   interface f g t d =
       same_interface (file_shape g) (written_tree file) (tree_of_design g d)
@@ -168,6 +180,7 @@ module _ (s : Selected) (design : List ℕ) (rows : List Row) (units : ℕ) (c :
         whole_map = whole_map;
         interface = interface;
         same_run = same_run;
+        same_traces = same_traces;
       }
 
 -- ---- what a call gave

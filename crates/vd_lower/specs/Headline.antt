@@ -15,6 +15,7 @@ use Rattle.vd_print93.specs.Layout.{layout_of}
 use Rattle.vd_elaboration.specs.Interfaces.{interface_of}
 use Rattle.vd_correspondence.specs.WholeMaps.{IsWholeMap, HasTops}
 use Rattle.vd_correspondence.specs.SameRuns.{HaveSameRun}
+use Rattle.vd_correspondence.specs.SameTraces.{TreesShowSame}
 
 -- the lines of a file are a text of this revision, with this derivation: its tokens are in the grammar, and nothing in it is refused
 pub record IsText (r : Revision) (s : Selected) (f : File) : Type 0 where
@@ -60,6 +61,11 @@ KeepsInterface s design = (f g : File) → IsText V2019 s f → IsDesign design 
 abbrev pub KeepsRun : Selected → List ℕ → List Row → Type 0
 KeepsRun s design rows = (f g : File) → IsText V2019 s f → IsDesign design g → HaveSameRun rows (file_shape f) (file_shape g)
 
+-- And as each name of the first language stands for itself, a run of the design prints what a run of the source prints: for every top
+-- both have the same signals in their order and equal traces.
+abbrev pub ShowsTheSame : Selected → List ℕ → Type 0
+ShowsTheSame s design = (f g : File) → IsText V2019 s f → IsDesign design g → TreesShowSame (file_shape f) (file_shape g)
+
 -- a design and a map that say what the source says
 pub record IsFaithful (s : Selected) (design : List ℕ) (rows : List Row) : Type 0 where
   pub source : (f : File) × IsText V2019 s f
@@ -69,3 +75,4 @@ pub record IsFaithful (s : Selected) (design : List ℕ) (rows : List Row) : Typ
   pub whole_map : HasWholeMap s design rows
   pub interface : KeepsInterface s design
   pub same_run : KeepsRun s design rows
+  pub same_traces : ShowsTheSame s design

@@ -1,4 +1,3 @@
 pub mod Conversions
 pub mod Headline
 pub mod Steps
-pub mod Unknown

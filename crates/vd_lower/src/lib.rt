@@ -2,7 +2,6 @@
 #![tactic(auto)]
 
 pub mod conversion;
-mod unknown;
 
-pub use conversion::{ConvertEnd, Converted, convert, one_conversion};
-pub use unknown::find_unknown;
+pub use conversion::{Converted, convert, one_conversion};
+pub use vd_accept::ConvertEnd;

@@ -1,7 +1,5 @@
 -- What the worked example does when it runs, from the definitions alone: the source and what is written for it.
 use Rattle.std.specs.Prelude.{◌≡◌, ℕ, List, [], ◌∷◌, codes, Option, Some, None, if◌then◌else◌, ◌==◌}
-use Rattle.vd_forest.specs.Forest.{Forest}
-use Rattle.vd_trees.specs.declared.form.Form.{Form}
 use Rattle.vd_trees.specs.TraceText.{trace_text}
 use Rattle.vd_values.specs.declared.scalar.Scalar.TheVariants.{Literal}
 use Rattle.vd_kernel.specs.Models.{Stimulus}

@@ -13,4 +13,8 @@ mod faults;
 #[cfg(test)]
 mod limits;
 #[cfg(test)]
+mod run_limits;
+#[cfg(test)]
+mod runs;
+#[cfg(test)]
 mod sure;

@@ -4,7 +4,7 @@ use crate::calls::{converted, line};
 use std::alloc::{AllocError, Global};
 use std::test::Fail;
 
-const HEAD: &[u8] = b"library ieee;
+pub const HEAD: &[u8] = b"library ieee;
 use ieee.std_logic_1164.all;
 entity e is
   port (a : in std_ulogic; y : out std_ulogic);
@@ -13,7 +13,7 @@ architecture rtl of e is
 begin
 ";
 
-const FOOT: &[u8] = b"end architecture;\n";
+pub const FOOT: &[u8] = b"end architecture;\n";
 
 #[test]
 fn the_longest_input(rt: HostRuntime) -> Result<(), Fail> {

@@ -2,9 +2,7 @@ use Rattle.std.proofs.Common.{sym, subst, inl}
 use Rattle.vd_command.specs.Words.{texts_of}
 use Rattle.vd_command.specs.Endings.{GotAll, GotFronts, due_in}
 use Rattle.vd_command.proofs.ReadyLemmas.{due_same, completed_as, fronts_as}
-use Rattle.vd_lex.proofs.LexingLaws.{one_lexing}
-use Rattle.vd_grammar19.proofs.OneReading.{one_reading}
-use Rattle.vd_lower.proofs.OneConversion.{one_answer}
+use Rattle.vd_lower.proofs.OneConversion.{one_conversion}
 use Rattle.vd_command.proofs.HeadlineLemmas.{completed_converts, completed_accepts, written_completes}
 use Rattle.vd_command.proofs.top.vdown.Goals as goal
 
@@ -33,5 +31,5 @@ pub returns-in-Ok-clause-accepts : goal.returns-in-Ok-clause-accepts
 returns-in-Ok-clause-accepts g c = λ no_fault enough.
     let completed = written_completes g.T.Tray.read_faults g.T.Tray.write_faults c.args.tray.now c.ready_for.new.tray c.write_due-in-Ok.new.tray (texts_of c.args.words.now.items) c.in-Some.file.now (g.T.Tray.files c.args.tray.now) (sym c.in-Some.ensures)
     (c.write_due-in-Ok.ensures.read_counts c.in-Some.file.now) c.ready_for.ensures.only_reads.write_count (due_in c.in-Ok.ready) c.in-Ok.ensures.ready c.write_due-in-Ok.result c.write_due-in-Ok.ensures.either c.write_due-in-Ok.ensures.fault no_fault in
-    completed_accepts (one_answer one_lexing one_reading) (g.T.Tray.files c.args.tray.now) (texts_of c.args.words.now.items) c.write_due-in-Ok.result (GotAll g.T.Tray.written c.args.tray.now c.write_due-in-Ok.new.tray)
+    completed_accepts one_conversion (g.T.Tray.files c.args.tray.now) (texts_of c.args.words.now.items) c.write_due-in-Ok.result (GotAll g.T.Tray.written c.args.tray.now c.write_due-in-Ok.new.tray)
     (returns-in-Ok-clause-completed g c completed)

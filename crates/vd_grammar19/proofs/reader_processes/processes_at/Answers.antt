@@ -13,18 +13,18 @@ use Rattle.vd_grammar19.proofs.reader_processes.processes_at.Goals as goal
 pub returns-in_err-tree-clause-tree : goal.returns-in_err-tree-clause-tree
 returns-in_err-tree-clause-tree c =
     let p = err_from_is_err_and c.from_residual.result c.from_residual.ensures.1 in
-    rw (p.1, p.2) (loop_fails (is (word PROCESS)) _ (process_shorter (known_of c.args.known.now) c.args.allowance) (at c.loop-store.store c.loop-store.made) c.loop-store.rest.now c.in_err-tree.field-0.0 _ (sym c.begins.ensures ∙ c.loop-store-test.true) c.in_err-tree.ensures.tree c.loop-store.invariant.reads)
+    rw (p.1, p.2) (loop_fails (is (word PROCESS)) _ (process_shorter c.args.revision (known_of c.args.known.now) c.args.allowance) (at c.loop-revision.store c.loop-revision.made) c.loop-revision.rest.now c.in_err-tree.field-0.0 _ (sym c.begins.ensures ∙ c.loop-revision-test.true) c.in_err-tree.ensures.tree c.loop-revision.invariant.reads)
 
-pub loop-store-smaller : goal.loop-store-smaller
-loop-store-smaller c = loop_shorter (is (word PROCESS)) _ (process_shorter (known_of c.args.known.now) c.args.allowance) (at c.loop-store.store c.loop-store.made) c.loop-store.rest.now (at c.process_at.new.store c.in_ok-tree.tree, c.in_ok-tree.after.now) c.in_ok-tree.ensures.tree
+pub loop-revision-smaller : goal.loop-revision-smaller
+loop-revision-smaller c = loop_shorter (is (word PROCESS)) _ (process_shorter c.args.revision (known_of c.args.known.now) c.args.allowance) (at c.loop-revision.store c.loop-revision.made) c.loop-revision.rest.now (at c.process_at.new.store c.in_ok-tree.tree, c.in_ok-tree.after.now) c.in_ok-tree.ensures.tree
 
-pub loop-store-preserved : goal.loop-store-preserved
-loop-store-preserved c = record {
+pub loop-revision-preserved : goal.loop-revision-preserved
+loop-revision-preserved c = record {
   within = c.in_ok-tree.ensures.within;
-  extends = extends_trans _ _ _ c.loop-store.invariant.extends c.process_at.ensures.extends;
-  reads = loop_goes (is (word PROCESS)) _ (process_shorter (known_of c.args.known.now) c.args.allowance) (at c.loop-store.store c.loop-store.made) c.loop-store.rest.now (at c.process_at.new.store c.in_ok-tree.tree, c.in_ok-tree.after.now) _ (sym c.begins.ensures ∙ c.loop-store-test.true) c.in_ok-tree.ensures.tree c.loop-store.invariant.reads;
+  extends = extends_trans _ _ _ c.loop-revision.invariant.extends c.process_at.ensures.extends;
+  reads = loop_goes (is (word PROCESS)) _ (process_shorter c.args.revision (known_of c.args.known.now) c.args.allowance) (at c.loop-revision.store c.loop-revision.made) c.loop-revision.rest.now (at c.process_at.new.store c.in_ok-tree.tree, c.in_ok-tree.after.now) _ (sym c.begins.ensures ∙ c.loop-revision-test.true) c.in_ok-tree.ensures.tree c.loop-revision.invariant.reads;
 }
 
 pub returns-clause-tree : goal.returns-clause-tree
 returns-clause-tree c =
-    loop_done (is (word PROCESS)) _ (process_shorter (known_of c.args.known.now) c.args.allowance) (at c.loop-store.store c.loop-store.made) c.loop-store.rest.now _ (sym c.begins.ensures ∙ c.loop-store-test.false) c.loop-store.invariant.reads
+    loop_done (is (word PROCESS)) _ (process_shorter c.args.revision (known_of c.args.known.now) c.args.allowance) (at c.loop-revision.store c.loop-revision.made) c.loop-revision.rest.now _ (sym c.begins.ensures ∙ c.loop-revision-test.false) c.loop-revision.invariant.reads

@@ -7,12 +7,12 @@ use Rattle.vd_grammar19.specs.Known.{known_of}
 use Rattle.vd_grammar19.specs.Reader.{is, process_at, repeated_at}
 use Rattle.vd_grammar19.proofs.reader_processes.processes_at.Given as goal
 
-abbrev pub invariant-loop-store : goal.invariant-loop-store
-invariant-loop-store l = record {
+abbrev pub invariant-loop-revision : goal.invariant-loop-revision
+invariant-loop-revision l = record {
   within : l.made ≤ length l.store;
   extends : Extends l.fn.store l.store;
-  reads : repeated_at (is (word PROCESS)) (process_at (known_of l.known) l.allowance) (at l.store l.made) l.rest ≡ repeated_at (is (word PROCESS)) (process_at (known_of l.known) l.allowance) nothing l.fn.tokens;
+  reads : repeated_at (is (word PROCESS)) (process_at l.revision (known_of l.known) l.allowance) (at l.store l.made) l.rest ≡ repeated_at (is (word PROCESS)) (process_at l.revision (known_of l.known) l.allowance) nothing l.fn.tokens;
 }
 
-abbrev pub decreases-loop-store : goal.decreases-loop-store
-decreases-loop-store l = length l.rest
+abbrev pub decreases-loop-revision : goal.decreases-loop-revision
+decreases-loop-revision l = length l.rest

@@ -1,15 +1,11 @@
-use Rattle.std.proofs.Common.{◌≡◌, ◌<◌, ◌≢◌, ℕ, length, set, sym, ap, ◌∙◌, subst, ⊎_elim, arith, get_or-set_same, get_or-set_other}
+use Rattle.std.proofs.Common.{◌≡◌, ◌<◌, ◌≢◌, ℕ, length, set, sym, ◌∙◌, subst, ⊎_elim, arith, get_or-set_same, get_or-set_other}
 use Rattle.std.proofs.lemmas.Bool.{cases_eq}
 use Rattle.std.proofs.lemmas.List.{get_or_default}
-use Rattle.vd_values.specs.declared.scalar.Scalar.{Scalar}
 use Rattle.vd_values.specs.declared.scalar.Scalar.TheVariants.{Literal}
-use Rattle.vd_kernel.specs.declared.histories.History.{History}
 use Rattle.vd_kernel.specs.Histories.{history_after, history_at, no_history}
 use Rattle.vd_kernel.specs.SignalValues.{value_at}
+use Rattle.vd_kernel.proofs.HistoryLemmas.{same_after}
 use Rattle.vd_kernel.proofs.histories.note_changes.Goals as goal
-
-same_after : (v w x y : Scalar) (h k : History) → v ≡ w → x ≡ y → h ≡ k → history_after v x h ≡ history_after w y k
-same_after v w x y h k e f g = ap (λ z. history_after z x h) e ∙ ap (λ z. history_after w z h) f ∙ ap (history_after w y) g
 
 pub loop-i-preserved : goal.loop-i-preserved
 loop-i-preserved c =

@@ -1,8 +1,9 @@
 use Rattle.std.proofs.Common.{◌≡◌, List, get_or, ap, ◌∙◌, subst}
 use Rattle.vd_lex.specs.declared.selected.Selected.{Selected}
 use Rattle.vd_lower.specs.declared.conversion.Converted.{Converted}
-use Rattle.vd_lower.specs.Conversions.{IsOnly, Converts}
-use Rattle.vd_lower.specs.Headline.{IsIn93, IsLaidOut, HaveTops, HasWholeMap, KeepsInterface, KeepsRun, IsFaithful}
+use Rattle.vd_accept.specs.Acceptance.{IsOnly}
+use Rattle.vd_lower.specs.Conversions.{Converts}
+use Rattle.vd_lower.specs.Headline.{IsIn93, IsLaidOut, HaveTops, HasWholeMap, KeepsInterface, KeepsRun, ShowsTheSame, IsFaithful}
 use Rattle.vd_lower.proofs.Faithful.{if_ok_map, all_faithful}
 use Rattle.vd_lower.proofs.conversion.convert.Goals as goal
 
@@ -39,3 +40,8 @@ pub returns-clause-same_run : goal.returns-clause-same_run
 returns-clause-same_run c = λ file only.
     let converts = subst (λ s. Converts s c.convert_file.result) (only_first c.args.files.now file c.index-files-0.result c.index-files-0.is only) c.convert_file.ensures in
     if_ok_map (λ (x : Converted). IsFaithful file x.design x.map.rows) (λ x. KeepsRun file x.design x.map.rows) (λ x f. f.same_run) c.convert_file.result (all_faithful file c.convert_file.result converts)
+
+pub returns-clause-same_traces : goal.returns-clause-same_traces
+returns-clause-same_traces c = λ file only.
+    let converts = subst (λ s. Converts s c.convert_file.result) (only_first c.args.files.now file c.index-files-0.result c.index-files-0.is only) c.convert_file.ensures in
+    if_ok_map (λ (x : Converted). IsFaithful file x.design x.map.rows) (λ x. ShowsTheSame file x.design) (λ x f. f.same_traces) c.convert_file.result (all_faithful file c.convert_file.result converts)

@@ -1,16 +1,12 @@
 use Rattle.std.proofs.Common.{◌≡◌, ◌<◌, ◌∙◌, length, drop, ap, arith}
-use Rattle.vd_values.specs.declared.scalar.Scalar.{Scalar}
-use Rattle.vd_kernel.specs.declared.histories.History.{History}
 use Rattle.vd_kernel.specs.Values.{effective}
-use Rattle.vd_kernel.specs.Histories.{history_at, history_after}
+use Rattle.vd_kernel.specs.Histories.{history_at}
 use Rattle.vd_kernel.specs.Orders.{shape_of}
 use Rattle.vd_kernel.specs.SignalValues.{nothing_given, value_at}
 use Rattle.vd_kernel.specs.Simulated.{Simulated, effective_of}
+use Rattle.vd_kernel.proofs.HistoryLemmas.{same_after}
 use Rattle.vd_kernel.proofs.Placings.{written_back}
 use Rattle.vd_kernel.proofs.drivers.Drivers.update.Goals as goal
-
-same_after : (v w x y : Scalar) (h k : History) → v ≡ w → x ≡ y → h ≡ k → history_after v x h ≡ history_after w y k
-same_after v w x y h k e f g = ap (λ z. history_after z x h) e ∙ ap (λ z. history_after w z h) f ∙ ap (history_after w y) g
 
 pub invariant_of-self : goal.invariant_of-self
 invariant_of-self c =

@@ -1,5 +1,4 @@
 use Rattle.std.proofs.Common.{◌≡◌, ◌+◌, length}
-use Rattle.vd_trees.specs.declared.revision.Revision.TheVariants.{V2019}
 use Rattle.vd_lex.specs.Lexis.{line_spots}
 use Rattle.vd_lex.specs.Scans.{spots_from, ReadsTokens}
 use Rattle.vd_lex.proofs.lexer.Lexer.read_line.Given as goal
@@ -9,7 +8,7 @@ invariant-loop-rest l = record {
   same_file : l.place.file ≡ l.fn.file;
   same_line : l.place.line ≡ l.line.number;
   column : l.place.column + length l.rest ≡ length l.line.bytes + 1;
-  reads : ReadsTokens V2019 l.initial.self.tokens.items l.self.tokens.items (line_spots l.fn.file l.line.number 1 l.line.bytes) (spots_from l.place l.rest);
+  reads : ReadsTokens l.words.revision l.initial.self.tokens.items l.self.tokens.items (line_spots l.fn.file l.line.number 1 l.line.bytes) (spots_from l.place l.rest);
 }
 
 abbrev pub decreases-loop-rest : goal.decreases-loop-rest

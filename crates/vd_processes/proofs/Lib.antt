@@ -1,0 +1,4 @@
+pub mod ErasedLemmas
+pub mod NameLemmas
+pub mod OperationLemmas
+pub mod ResolvedLemmas

@@ -1,0 +1,5 @@
+pub mod CallerLemmas
+pub mod DesignLemmas
+pub mod RunLemmas
+pub mod ShapeLemmas
+pub mod UnitLemmas

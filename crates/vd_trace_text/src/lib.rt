@@ -1,0 +1,13 @@
+//! The text of a trace, written step by step behind what a buffer holds already.
+#![tactic(auto)]
+
+mod paths;
+mod reports;
+pub mod steps;
+#[cfg(test)]
+mod tests;
+pub mod types;
+mod values;
+
+pub use steps::{add_done, add_quiet, add_shown_step, add_stop, add_stopped_step};
+pub use types::TypeText;

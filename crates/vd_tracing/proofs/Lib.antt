@@ -1,0 +1,4 @@
+pub mod OneTracing
+pub mod PrintLemmas
+pub mod RunLemmas
+pub mod TextLemmas
