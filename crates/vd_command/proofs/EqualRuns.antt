@@ -4,31 +4,31 @@ use Rattle.std.specs.Prelude.{◌⊎◌, is_some, option_and_then, if◌then◌e
 use Rattle.vd_bytes.specs.declared.answers.Limit.{Limit}
 use Rattle.vd_bytes.specs.declared.answers.Limit.TheVariants as limits
 use Rattle.vd_forest.specs.Forest.{Forest}
-use Rattle.vd_trees.specs.declared.form.Form.{Form}
+use Rattle.vd_first_trees.specs.declared.form.Form.{Form}
 use Rattle.vd_trees.specs.declared.revision.Revision.{Revision}
 use Rattle.vd_trees.specs.declared.revision.Revision.TheVariants.{V2019, V1993}
 use Rattle.vd_trees.specs.declared.rows.Row.{Row}
 use Rattle.vd_trees.specs.Identifiers.{lowered}
 use Rattle.vd_trees.specs.Traces.{Trace}
 use Rattle.vd_trees.specs.TraceText.{trace_text}
-use Rattle.vd_lex.specs.declared.selected.Selected.{Selected}
-use Rattle.vd_lex.specs.Lexings.{plain_of}
-use Rattle.vd_grammar19.specs.Shapes.{file_shape}
-use Rattle.vd_accept.specs.Acceptance as texts
-use Rattle.vd_accept.specs.Acceptance.{Acceptance, IsAccepted, IsAcceptance}
-use Rattle.vd_accept.proofs.OneAcceptance.{one_acceptance}
+use Rattle.vd_first_lex.specs.declared.selected.Selected.{Selected}
+use Rattle.vd_first_lex.specs.Lexings.{plain_of}
+use Rattle.vd_first_grammar.specs.Shapes.{file_shape}
+use Rattle.vd_first_accept.specs.Acceptance as texts
+use Rattle.vd_first_accept.specs.Acceptance.{Acceptance, IsAccepted, IsAcceptance}
+use Rattle.vd_first_accept.proofs.OneAcceptance.{one_acceptance}
 use Rattle.vd_kernel.specs.SignalValues.{nothing_given}
-use Rattle.vd_elaboration.specs.Tops.{Top}
-use Rattle.vd_elaboration.specs.Signals.{ScalarSignal}
-use Rattle.vd_elaboration.specs.Elaboration.{Elaborated, elaboration}
-use Rattle.vd_elaboration.specs.Traces.{std_ulogic, trace_of}
-use Rattle.vd_correspondence.specs.SameTraces.{ShowSame, ShowSameFor, TreesShowSame}
-use Rattle.vd_lower.specs.Conversions.{IsConverted}
-use Rattle.vd_lower.specs.Headline.{IsText}
-use Rattle.vd_lower.proofs.Faithful.{faithful}
-use Rattle.vd_runs.specs.TopNames.{top_named, top_told, if_elaborated}
-use Rattle.vd_runs.specs.Elaborations.{limit_of, limit_by}
-use Rattle.vd_tracing.specs.Tracings.{output_limit, Tracing, refused, beyond, traced, HasDesign, ElaboratesBeyond, ends_in_stop, run_text, run_stops, IsTracing}
+use Rattle.vd_first_elaboration.specs.Tops.{Top}
+use Rattle.vd_first_elaboration.specs.Signals.{ScalarSignal}
+use Rattle.vd_first_elaboration.specs.Elaboration.{Elaborated, elaboration}
+use Rattle.vd_first_elaboration.specs.Traces.{std_ulogic, trace_of}
+use Rattle.vd_first_correspondence.specs.SameTraces.{ShowSame, ShowSameFor, TreesShowSame}
+use Rattle.vd_first_lower.specs.Conversions.{IsConverted}
+use Rattle.vd_first_lower.specs.Headline.{IsText}
+use Rattle.vd_first_lower.proofs.Faithful.{faithful}
+use Rattle.vd_first_runs.specs.TopNames.{top_named, top_told, if_elaborated}
+use Rattle.vd_first_runs.specs.Elaborations.{limit_of, limit_by}
+use Rattle.vd_first_tracing.specs.Tracings.{output_limit, Tracing, refused, beyond, traced, HasDesign, ElaboratesBeyond, ends_in_stop, run_text, run_stops, IsTracing}
 use Rattle.vd_command.specs.EqualRuns.{RunsAreEqual}
 
 -- ---- designs that show the same

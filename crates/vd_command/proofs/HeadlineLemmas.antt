@@ -4,10 +4,10 @@ use Rattle.std.proofs.lemmas.Option.{IfSome_then}
 use Rattle.vd_trees.specs.declared.rows.Row.{Row}
 use Rattle.vd_bytes.specs.declared.channels.Channel.{Channel}
 use Rattle.vd_bytes.specs.Trays.{content_of, Rose}
-use Rattle.vd_lex.specs.Lexings.{plain_of}
-use Rattle.vd_lower.specs.Conversions.{Answer, refused, beyond, converted, design_text, map_rows, IsConverted, IsConversion}
-use Rattle.vd_lower.specs.Steps.{HasOneConversion}
-use Rattle.vd_lower.proofs.Faithful.{faithful}
+use Rattle.vd_first_lex.specs.Lexings.{plain_of}
+use Rattle.vd_first_lower.specs.Conversions.{Answer, refused, beyond, converted, design_text, map_rows, IsConverted, IsConversion}
+use Rattle.vd_first_lower.specs.Steps.{HasOneConversion}
+use Rattle.vd_first_lower.proofs.Faithful.{faithful}
 use Rattle.vd_command.specs.Words.{file_of}
 use Rattle.vd_command.specs.Outcomes.{Due, due_of, conversion, IsFileOutcome, IsWordsOutcome, IsOutcome}
 use Rattle.vd_command.specs.Endings.{GotAll, IsCompleted, IsReady}

@@ -1,8 +1,8 @@
 -- Words and files have one outcome.
 use Rattle.std.proofs.Common.{◌≡◌, ℕ, List, sym, ap, ◌∙◌, arith, inl, inr, Option, Some, None}
 use Rattle.vd_bytes.specs.Trays.{content_of}
-use Rattle.vd_lex.specs.Lexings.{plain_of}
-use Rattle.vd_lower.specs.Steps.{HasOneConversion}
+use Rattle.vd_first_lex.specs.Lexings.{plain_of}
+use Rattle.vd_first_lower.specs.Steps.{HasOneConversion}
 use Rattle.vd_command.specs.Words.{file_of}
 use Rattle.vd_command.specs.Outcomes.{Due, due_of, IsFileOutcome, IsWordsOutcome, HasOneOutcome}
 

@@ -3,9 +3,9 @@ use Rattle.std.proofs.Common.{◌≡◌, ◌≢◌, ◌<◌, ◌≤◌, ℕ, suc
 use Rattle.std.proofs.lemmas.Option.{IfSome_then}
 use Rattle.vd_bytes.specs.declared.channels.Channel.{Channel}
 use Rattle.vd_bytes.specs.Trays.{content_of, Rose}
-use Rattle.vd_lex.specs.declared.selected.Selected.{Selected}
-use Rattle.vd_lex.specs.Lexings.{ColumnsFit, plain_of}
-use Rattle.vd_lower.specs.Conversions.{Answer, refused, beyond, converted, IsConversion}
+use Rattle.vd_first_lex.specs.declared.selected.Selected.{Selected}
+use Rattle.vd_first_lex.specs.Lexings.{ColumnsFit, plain_of}
+use Rattle.vd_first_lower.specs.Conversions.{Answer, refused, beyond, converted, IsConversion}
 use Rattle.vd_command.specs.Words.{file_of}
 use Rattle.vd_command.specs.Outcomes.{Due, due_of, IsFileOutcome, IsWordsOutcome, IsOutcome}
 use Rattle.vd_command.specs.Endings.{due_with, IsCompleted, IsDueOrFault, IsCompletedStatus, IsReady, GotAll, GotFronts}

@@ -7,13 +7,13 @@ use Rattle.vd_bytes.specs.declared.answers.Limit.TheVariants as limits
 use Rattle.vd_bytes.specs.Trays.{Appends, Rose, content_of}
 use Rattle.vd_trees.specs.declared.revision.Revision.TheVariants.{V2019}
 use Rattle.vd_trees.specs.declared.rows.Row.{Row}
-use Rattle.vd_lex.specs.declared.tokens.TheConstants.{TOKENS_LIMIT}
-use Rattle.vd_lex.specs.Lexings.{plain_of}
-use Rattle.vd_grammar19.specs.Derivations.{File}
-use Rattle.vd_grammar19.specs.Conditions.{file_depths}
-use Rattle.vd_grammar19.specs.Refusals.{nesting_limit}
-use Rattle.vd_names.specs.Maps.{map_text_of}
-use Rattle.vd_lower.specs.Headline.{IsText, IsFaithful}
+use Rattle.vd_first_lex.specs.declared.tokens.TheConstants.{TOKENS_LIMIT}
+use Rattle.vd_first_lex.specs.Lexings.{plain_of}
+use Rattle.vd_first_grammar.specs.Derivations.{File}
+use Rattle.vd_first_grammar.specs.Conditions.{file_depths}
+use Rattle.vd_first_grammar.specs.Refusals.{nesting_limit}
+use Rattle.vd_first_names.specs.Maps.{map_text_of}
+use Rattle.vd_first_lower.specs.Headline.{IsText, IsFaithful}
 use Rattle.vd_command.specs.Words.{file_of}
 use Rattle.vd_command.specs.Outcomes.{limit_number, conversion_line}
 

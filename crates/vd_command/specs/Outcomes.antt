@@ -6,9 +6,9 @@ use Rattle.vd_bytes.specs.declared.answers.Limit.{Limit}
 use Rattle.vd_bytes.specs.declared.answers.Limit.TheVariants as limits
 use Rattle.vd_bytes.specs.Trays.{content_of}
 use Rattle.vd_trees.specs.declared.rows.Row.{Row}
-use Rattle.vd_lex.specs.Lexings.{plain_of}
-use Rattle.vd_names.specs.Maps.{map_text_of}
-use Rattle.vd_lower.specs.Conversions.{Answer, refused, beyond, converted, IsConversion}
+use Rattle.vd_first_lex.specs.Lexings.{plain_of}
+use Rattle.vd_first_names.specs.Maps.{map_text_of}
+use Rattle.vd_first_lower.specs.Conversions.{Answer, refused, beyond, converted, IsConversion}
 use Rattle.vd_command.specs.Words.{file_of}
 
 pub record Due : Type 0 where

@@ -9,5 +9,5 @@ pub mod words;
 
 pub use laws::runs_are_equal;
 pub use top::{one_outcome, vdown};
-pub use vd_runs::{Run19, Run93, Top, elaborate19, elaborate93, top19, top93};
-pub use vd_tracing::{Traced, run19, run93};
+pub use vd_first_runs::{Run19, Run93, Top, elaborate19, elaborate93, top19, top93};
+pub use vd_first_tracing::{Traced, run19, run93};

@@ -2,17 +2,17 @@
 
 ghost use Rattle.std.specs.Prelude.{◌≡◌, ◌≢◌, ◌≤◌, ◌<◌, ◌⊎◌, ℕ, List, [], length, IfOk, IfSome, vec_len, string_bytes};
 ghost use Rattle.vd_bytes.specs.Trays.{Rose, OnlyReads, content_of};
-ghost use Rattle.vd_lower.specs.Conversions.{Answer, refused, beyond, converted, IsConversion};
-ghost use Rattle.vd_lex.specs.Lexings.{plain_of};
+ghost use Rattle.vd_first_lower.specs.Conversions.{Answer, refused, beyond, converted, IsConversion};
+ghost use Rattle.vd_first_lex.specs.Lexings.{plain_of};
 ghost use Rattle.vd_command.specs.Outcomes.{Due, read_fault, limit_passed, due_of, IsFileOutcome};
 ghost use Rattle.vd_command.specs.Endings.{IsReady, due_in};
 
 use crate::console::{INPUT_LIMIT, conversion_line, limit_line, read_fault_line, refusal_line};
 use std::alloc::{AllocError, Global};
 use vd_bytes::{Bytes, Limit, ReadEnd, Tray, read_all};
-use vd_lex::plain;
-use vd_lower::{ConvertEnd, Converted, convert};
-use vd_names::map_text;
+use vd_first_lex::plain;
+use vd_first_lower::{ConvertEnd, Converted, convert};
+use vd_first_names::map_text;
 
 /// A status and the bytes that are due on each channel.
 #[derive(Drop)]

@@ -2,11 +2,11 @@
 use Rattle.std.specs.Prelude.{◌≡◌, ◌==◌, ℕ, List, [], ◌∷◌, ◌++◌, map, codes, None, if◌then◌else◌}
 use Rattle.std.specs.List.{flat_map}
 use Rattle.vd_bytes.specs.declared.places.Place.{Place}
-use Rattle.vd_lex.specs.declared.tokens.Kind.{Kind}
-use Rattle.vd_lex.specs.declared.tokens.Kind.TheVariants.{Name, Word, Mark, End}
-use Rattle.vd_lex.specs.declared.tokens.Token.{Token}
-use Rattle.vd_lex.specs.declared.tokens.TheConstants.{ALL, AND, ARCHITECTURE, BEGIN, END, ENTITY, IN, IS, LIBRARY, OF, OUT, PORT, PROCESS, USE, OPENING, CLOSING, COMMA, POINT, COLON, SEMICOLON, ARROW}
-use Rattle.vd_grammar19.specs.Derivations.{File, Port, Process, name, conjoined, every}
+use Rattle.vd_first_lex.specs.declared.tokens.Kind.{Kind}
+use Rattle.vd_first_lex.specs.declared.tokens.Kind.TheVariants.{Name, Word, Mark, End}
+use Rattle.vd_first_lex.specs.declared.tokens.Token.{Token}
+use Rattle.vd_first_lex.specs.declared.tokens.TheConstants.{ALL, AND, ARCHITECTURE, BEGIN, END, ENTITY, IN, IS, LIBRARY, OF, OUT, PORT, PROCESS, USE, OPENING, CLOSING, COMMA, POINT, COLON, SEMICOLON, ARROW}
+use Rattle.vd_first_grammar.specs.Derivations.{File, Port, Process, name, conjoined, every}
 
 -- places are left out, as nothing that is written depends on them
 abbrev pub nowhere : Place

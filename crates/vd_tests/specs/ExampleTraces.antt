@@ -3,12 +3,12 @@ use Rattle.std.specs.Prelude.{◌≡◌, ℕ, List, [], ◌∷◌, codes, Option
 use Rattle.vd_trees.specs.TraceText.{trace_text}
 use Rattle.vd_values.specs.declared.scalar.Scalar.TheVariants.{Literal}
 use Rattle.vd_kernel.specs.Models.{Stimulus}
-use Rattle.vd_grammar19.specs.Derivations.{File, Process, name}
-use Rattle.vd_grammar19.specs.Shapes.{file_shape}
-use Rattle.vd_grammar93.specs.Written.{written_tree}
-use Rattle.vd_elaboration.specs.Tops.{Top}
-use Rattle.vd_elaboration.specs.Elaboration.{Elaborated, elaboration}
-use Rattle.vd_elaboration.specs.Traces.{trace_of, paths_of, types_of}
+use Rattle.vd_first_grammar.specs.Derivations.{File, Process, name}
+use Rattle.vd_first_grammar.specs.Shapes.{file_shape}
+use Rattle.vd_first_written.specs.Written.{written_tree}
+use Rattle.vd_first_elaboration.specs.Tops.{Top}
+use Rattle.vd_first_elaboration.specs.Elaboration.{Elaborated, elaboration}
+use Rattle.vd_first_elaboration.specs.Traces.{trace_of, paths_of, types_of}
 use Rattle.vd_tests.specs.Example.{example, body, n, text_of_lines}
 
 -- the entity with its last architecture

@@ -1,9 +1,9 @@
 //! The worked example, from the definitions alone.
 
 ghost use Rattle.vd_trees.specs.declared.revision.Revision.TheVariants.{V2019};
-ghost use Rattle.vd_grammar19.specs.Derivations.{IsFile};
-ghost use Rattle.vd_names.specs.Maps.{map_text_of};
-ghost use Rattle.vd_lower.specs.Conversions.{design_text, map_rows};
+ghost use Rattle.vd_first_grammar.specs.Derivations.{IsFile};
+ghost use Rattle.vd_first_names.specs.Maps.{map_text_of};
+ghost use Rattle.vd_first_lower.specs.Conversions.{design_text, map_rows};
 ghost use Rattle.vd_tests.specs.Example.{example, IsItsDesign, IsItsMap};
 ghost use Rattle.vd_tests.specs.ExampleTraces.{IsQuietSoon, IsDoneAtOnce, FollowsItsInputs, StopsBeforeItRuns};
 

@@ -4,8 +4,8 @@ use crate::limits::{FOOT, HEAD};
 use crate::runs::traced19;
 use std::alloc::{AllocError, Global};
 use std::test::Fail;
-use vd_accept::ConvertEnd;
 use vd_bytes::Limit;
+use vd_first_accept::ConvertEnd;
 
 /// So many processes that drive one output.
 fn crowded(alloc: Global, processes: usize) -> Result<Vec<u8>, AllocError> {

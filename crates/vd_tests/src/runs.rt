@@ -1,19 +1,20 @@
 //! Runs of sources and of the designs that are written for them.
 
 ghost use Rattle.std.specs.Prelude.{◌≡◌, IfOk};
-ghost use Rattle.vd_lex.specs.Lexings.{ColumnsFit};
+ghost use Rattle.vd_first_lex.specs.Lexings.{ColumnsFit};
 
 use crate::conversions::{DUE, SOURCE};
 use std::alloc::{AllocError, Global};
 use std::process::Abort;
 use std::test::Fail;
-use vd_accept::{ConvertEnd, accept19, accept93};
 use vd_bytes::{Place, Refused};
-use vd_lex::{Selected, plain};
-use vd_lower::{Converted, convert};
-use vd_runs::{Run19, Run93, elaborate19, elaborate93, top19, top93};
-use vd_tracing::{Traced, run19, run93};
-use vd_trees::{Cycle, Design19, Design93, RunEnd};
+use vd_first_accept::{ConvertEnd, accept19, accept93};
+use vd_first_lex::{Selected, plain};
+use vd_first_lower::{Converted, convert};
+use vd_first_runs::{Run19, Run93, elaborate19, elaborate93, top19, top93};
+use vd_first_tracing::{Traced, run19, run93};
+use vd_first_trees::{Design19, Design93};
+use vd_trees::{Cycle, RunEnd};
 use vd_values::Scalar;
 
 /// What a run must print, and whether it must stop.

@@ -1,7 +1,5 @@
 pub mod Words
 pub mod Identifiers
-pub mod Forms
-pub mod Validity
 pub mod Traces
 pub mod Paths
 pub mod ValueTexts

@@ -1,17 +1,12 @@
-//! The syntax trees of both revisions, the rows of a map between their names, paths, and what runs give.
+//! The revisions, the rows of a map between names, paths, and what runs give.
 #![tactic(auto)]
 
-pub mod designs;
-pub mod form;
-pub mod form_tests;
 pub mod paths;
 pub mod revision;
 pub mod rows;
 pub mod trace_examples;
 pub mod traces;
 
-pub use designs::{Design19, Design93};
-pub use form::Form;
 pub use paths::{Label, Labels, Level, Levels, Path, PathIndex, PathStep, PathSteps, Scope};
 pub use revision::Revision;
 pub use rows::{Row, RowKind};

@@ -1,8 +1,8 @@
 use Rattle.std.proofs.Common.{[], refl, sym, ap, subst, ◌∙◌, arith}
 use Rattle.std.proofs.lemmas.Result.{IfOk-weaker}
-use Rattle.vd_lex.specs.Lexings.{ColumnsFit}
-use Rattle.vd_lex.proofs.LineLemmas.{columns_fit}
-use Rattle.vd_lower.specs.Conversions.{refused, beyond, converted, IsConversion, EndsAs}
+use Rattle.vd_first_lex.specs.Lexings.{ColumnsFit}
+use Rattle.vd_first_lex.proofs.LineLemmas.{columns_fit}
+use Rattle.vd_first_lower.specs.Conversions.{refused, beyond, converted, IsConversion, EndsAs}
 use Rattle.vd_command.specs.Endings.{due_with}
 use Rattle.vd_command.proofs.ReadyLemmas.{fits_alone}
 use Rattle.vd_command.proofs.ready.file_ready.Goals as goal

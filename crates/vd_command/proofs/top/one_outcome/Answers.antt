@@ -1,4 +1,4 @@
-use Rattle.vd_lower.proofs.OneConversion.{one_conversion}
+use Rattle.vd_first_lower.proofs.OneConversion.{one_conversion}
 use Rattle.vd_command.proofs.OneOutcome.{one_outcome}
 use Rattle.vd_command.proofs.top.one_outcome.Goals as goal
 

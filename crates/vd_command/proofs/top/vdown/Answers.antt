@@ -2,7 +2,7 @@ use Rattle.std.proofs.Common.{sym, subst, inl}
 use Rattle.vd_command.specs.Words.{texts_of}
 use Rattle.vd_command.specs.Endings.{GotAll, GotFronts, due_in}
 use Rattle.vd_command.proofs.ReadyLemmas.{due_same, completed_as, fronts_as}
-use Rattle.vd_lower.proofs.OneConversion.{one_conversion}
+use Rattle.vd_first_lower.proofs.OneConversion.{one_conversion}
 use Rattle.vd_command.proofs.HeadlineLemmas.{completed_converts, completed_accepts, written_completes}
 use Rattle.vd_command.proofs.top.vdown.Goals as goal
 

@@ -1,6 +1,6 @@
 use Rattle.std.proofs.Common.{refl, sym, subst, ◌∙◌}
 use Rattle.std.specs.Prelude.{IsSome}
-use Rattle.vd_tracing.proofs.RunLemmas.{top_elaborated}
+use Rattle.vd_first_tracing.proofs.RunLemmas.{top_elaborated}
 use Rattle.vd_tests.proofs.runs.begun19.Goals as goal
 
 pub elaborate19-requires : goal.elaborate19-requires

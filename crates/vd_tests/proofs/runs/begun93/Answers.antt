@@ -1,6 +1,6 @@
 use Rattle.std.proofs.Common.{refl, sym, subst, ◌∙◌}
 use Rattle.std.specs.Prelude.{IsSome}
-use Rattle.vd_tracing.proofs.RunLemmas.{top_elaborated}
+use Rattle.vd_first_tracing.proofs.RunLemmas.{top_elaborated}
 use Rattle.vd_tests.proofs.runs.begun93.Goals as goal
 
 pub elaborate93-requires : goal.elaborate93-requires

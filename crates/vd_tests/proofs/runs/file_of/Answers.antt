@@ -1,7 +1,7 @@
 use Rattle.std.proofs.Common.{sym, subst, arith}
 use Rattle.std.proofs.lemmas.Result.{IfOk-weaker}
-use Rattle.vd_lex.specs.Lexings.{ColumnsFit}
-use Rattle.vd_lex.proofs.LineLemmas.{columns_fit}
+use Rattle.vd_first_lex.specs.Lexings.{ColumnsFit}
+use Rattle.vd_first_lex.proofs.LineLemmas.{columns_fit}
 use Rattle.vd_tests.proofs.runs.file_of.Goals as goal
 
 pub returns : goal.returns

@@ -1,5 +1,0 @@
-use Rattle.vd_correspondence.proofs.FileRunLemmas.{lowering_keeps_run}
-use Rattle.vd_correspondence.proofs.laws.lowering_keeps_run.Goals as goal
-
-pub returns : goal.returns
-returns c = lowering_keeps_run

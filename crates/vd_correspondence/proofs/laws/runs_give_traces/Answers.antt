@@ -1,5 +1,0 @@
-use Rattle.vd_correspondence.proofs.TraceLemmas.{runs_give_traces}
-use Rattle.vd_correspondence.proofs.laws.runs_give_traces.Goals as goal
-
-pub returns : goal.returns
-returns c = runs_give_traces

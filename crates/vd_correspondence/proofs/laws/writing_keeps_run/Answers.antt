@@ -1,5 +1,0 @@
-use Rattle.vd_correspondence.proofs.FileRunLemmas.{writing_keeps_run}
-use Rattle.vd_correspondence.proofs.laws.writing_keeps_run.Goals as goal
-
-pub returns : goal.returns
-returns c = writing_keeps_run

@@ -1,0 +1,11 @@
+use Rattle.std.proofs.Common.{◌≡◌, []}
+use Rattle.vd_forest.specs.Forest.{size}
+use Rattle.vd_first_elaboration.specs.Expressions.{each_once}
+use Rattle.vd_first_elaboration.specs.Processes.{targets_of}
+use Rattle.vd_first_processes.proofs.resolution.targets.Given as goal
+
+abbrev pub invariant-loop-first : goal.invariant-loop-first
+invariant-loop-first l = each_once l.names (targets_of l.left) ≡ each_once [] (targets_of l.statements)
+
+abbrev pub decreases-loop-first : goal.decreases-loop-first
+decreases-loop-first l = size l.left

@@ -1,5 +1,0 @@
-use Rattle.vd_lex.proofs.LexingLaws.{one_lexing}
-use Rattle.vd_lex.proofs.lexer.one_lexing.Goals as goal
-
-pub returns : goal.returns
-returns c = one_lexing

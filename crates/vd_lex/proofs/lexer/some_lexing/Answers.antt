@@ -1,5 +1,0 @@
-use Rattle.vd_lex.proofs.LexingExists.{some_lexing}
-use Rattle.vd_lex.proofs.lexer.some_lexing.Goals as goal
-
-pub returns : goal.returns
-returns c = some_lexing

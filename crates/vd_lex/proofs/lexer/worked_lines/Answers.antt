@@ -1,5 +1,0 @@
-use Rattle.vd_lex.proofs.LexingExamples.{reads_worked_line, breaks_worked_line}
-use Rattle.vd_lex.proofs.lexer.worked_lines.Goals as goal
-
-pub returns : goal.returns
-returns c = record { reads = reads_worked_line; breaks = breaks_worked_line }

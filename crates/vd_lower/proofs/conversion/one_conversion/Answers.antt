@@ -1,5 +1,0 @@
-use Rattle.vd_lower.proofs.OneConversion.{one_conversion}
-use Rattle.vd_lower.proofs.conversion.one_conversion.Goals as goal
-
-pub returns : goal.returns
-returns c = one_conversion

@@ -1,7 +1,0 @@
-//! The whole conversion of the first language.
-#![tactic(auto)]
-
-pub mod conversion;
-
-pub use conversion::{Converted, convert, one_conversion};
-pub use vd_accept::ConvertEnd;

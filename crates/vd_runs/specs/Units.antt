@@ -1,6 +1,0 @@
--- The units of a top, as the code finds them.
-use Rattle.vd_elaboration.specs.Tops.{TopUnits}
-use Rattle.vd_runs.specs.declared.units.Units.{Units}
-
-abbrev pub own_units : Units → TopUnits
-own_units u = record { entity = u.entity; architecture = u.architecture }

@@ -1,8 +1,0 @@
-//! The grammar isn't ambiguous.
-
-ghost use Rattle.vd_unambiguous.specs.OneDerivation.{HasOneDerivation};
-
-/// A token list has one derivation at most, in either revision.
-pub fn one_derivation()
-    ensures { HasOneDerivation }
-{}
