@@ -1,5 +1,5 @@
 -- The bytes of a token, and which texts a token of each kind can have.
-use Rattle.std.specs.Prelude.{◌≡◌, ◌<◌, ◌≤◌, ℕ, ◌+◌, ◌-◌, ◌*◌, Bool, true, false, ◌&&◌, ◌||◌, ◌==◌, not, nat_le, List, [], ◌∷◌, ◌++◌, length, slice_index_or, if◌then◌else◌}
+use Rattle.std.specs.Prelude.{◌≡◌, ◌<◌, ◌≤◌, ℕ, Bool, true, ◌&&◌, ◌||◌, ◌==◌, not, nat_le, List, [], ◌∷◌, ◌++◌, length, slice_index_or, decimal, if◌then◌else◌}
 use Rattle.std.specs.List.{list_all}
 use Rattle.vd_trees.specs.declared.revision.Revision.{Revision}
 use Rattle.vd_trees.specs.declared.revision.Revision.TheVariants.{V2019, V1993}
@@ -41,20 +41,15 @@ is_graphic b = nat_le 32 b && nat_le b 126
 abbrev pub is_digit : ℕ → Bool
 is_digit b = nat_le 48 b && nat_le b 57
 
--- the value of digits in decimal, the first first
-abbrev pub decimal_from : ℕ → List ℕ → ℕ
-decimal_from n [] = n
-decimal_from n (b ∷ bs) = decimal_from (n * 10 + (b - 48)) bs
-
--- digits without a zero in front, but for "0" itself
-abbrev pub is_decimal : List ℕ → Bool
-is_decimal [] = false
-is_decimal (b ∷ []) = is_digit b
-is_decimal (b ∷ c ∷ bs) = not (b == 48) && list_all is_digit (b ∷ c ∷ bs)
-
 -- the greatest value of INTEGER
 abbrev pub greatest_integer : ℕ
 greatest_integer = 2147483647
+
+-- the decimal text of a number that isn't above it
+pub record IsNumberText (text : List ℕ) : Type 0 where
+  pub number : ℕ
+  pub fits : number ≤ greatest_integer
+  pub is_decimal : text ≡ decimal number
 
 -- an element of bits: in revision 1993 a '0' or a '1', in 2019 any character but the underscore (95)
 abbrev pub is_bit : Revision → ℕ → Bool
@@ -63,7 +58,7 @@ is_bit V2019 b = is_graphic b && not (b == 95)
 
 abbrev pub IsTextOf : Revision → Kind → List ℕ → Type 0
 IsTextOf r Name text = is_identifier r text ≡ true
-IsTextOf r Number text = (is_decimal text ≡ true) × (decimal_from 0 text ≤ greatest_integer)
+IsTextOf r Number text = IsNumberText text
 IsTextOf r Letter text = (length text ≡ 1) × (list_all is_graphic text ≡ true)
 IsTextOf r Quoted text = list_all is_graphic text ≡ true
 IsTextOf r Bits text = list_all (is_bit r) text ≡ true
