@@ -1,0 +1,10 @@
+//! The forms of literals: where each ends, and what it means.
+#![tactic(auto)]
+
+pub mod bytes;
+pub mod numbers;
+pub mod runs;
+pub mod values;
+
+
+pub use runs::{more_length, run_length};
