@@ -22,16 +22,15 @@ le_more base n d h = let e = le-mul_of_pos_right n (let p : 0 < base = omega ari
 
 pub value-above : (base n : ℕ) (bs : List ℕ) → 1 ≤ base → n ≤ value_behind base n bs
 value-above base n [] h = omega arith
-value-above base n (b ∷ bs) h = by (eqb b 95) (value-above base n bs h) (value-above base (n * base + digit_value b) bs h)
-  where
-    by : (t : Bool) → n ≤ value_behind base n bs → n * base + digit_value b ≤ value_behind base (n * base + digit_value b) bs → n ≤ cond t (value_behind base n bs) (value_behind base (n * base + digit_value b) bs)
-    by true same more = same
-    by false same more = let e = le_more base n (digit_value b) h in omega (arith, e, more)
+value-above base n (b ∷ bs) h =
+    let rest = value-above base (cond (eqb b 95) n (n * base + digit_value b)) bs h in
+    let here = cond_both (eqb b 95) n (n * base + digit_value b) (λ m. n ≤ m) (λ t. (let e : n ≤ n = omega arith in e)) (λ t. le_more base n (digit_value b) h) in
+    omega (arith, rest, here)
 
 pub value-digit : (base n : ℕ) (bs : List ℕ) (i : ℕ) → i < length bs → eqb (get_or bs i 0) 95 ≡ false → value_behind base n (drop i bs) ≡ value_behind base (n * base + digit_value (get_or bs i 0)) (drop (i + 1) bs)
 value-digit base n bs i h e =
     at_drop_more (value_behind base n) bs i 0 h
-    ∙ cond-false (eqb (get_or bs i 0) 95) (value_behind base n (drop (i + 1) bs)) (value_behind base (n * base + digit_value (get_or bs i 0)) (drop (i + 1) bs)) e
+    ∙ ap (λ m. value_behind base m (drop (i + 1) bs)) (cond-false (eqb (get_or bs i 0) 95) n (n * base + digit_value (get_or bs i 0)) e)
 
 pub pow-step : (n base k : ℕ) → 0 < k → n * base ^ k ≡ n * base * base ^ (k - 1)
 pow-step n base zero h = absurd (omega arith)

@@ -7,7 +7,7 @@ use Rattle.vd_tokens.specs.Spellings.{greatest_integer}
 -- the value of digits behind those that a number stands for, the first first
 abbrev pub value_behind : ℕ → ℕ → List ℕ → ℕ
 value_behind base n [] = n
-value_behind base n (b ∷ bs) = if b == 95 then value_behind base n bs else value_behind base (n * base + digit_value b) bs
+value_behind base n (b ∷ bs) = value_behind base (if b == 95 then n else n * base + digit_value b) bs
 
 abbrev pub value_of : ℕ → List ℕ → ℕ
 value_of base digits = value_behind base 0 digits

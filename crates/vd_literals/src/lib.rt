@@ -1,8 +1,10 @@
 //! The forms of literals: where each ends, and what it means.
 #![tactic(auto)]
 
+pub mod bits;
 pub mod bytes;
 pub mod numbers;
+pub mod quoted;
 pub mod runs;
 pub mod values;
 
