@@ -1,0 +1,4 @@
+pub mod BitsLemmas
+pub mod QuotedLemmas
+pub mod RunLemmas
+pub mod ValueLemmas

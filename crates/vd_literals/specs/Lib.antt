@@ -1,0 +1,5 @@
+pub mod Bits
+pub mod Numbers
+pub mod Quoted
+pub mod Runs
+pub mod Values

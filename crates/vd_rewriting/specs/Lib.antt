@@ -1,0 +1,4 @@
+pub mod Folding
+pub mod Forms
+pub mod Inheriting
+pub mod Rewriting
