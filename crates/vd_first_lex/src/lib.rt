@@ -13,4 +13,3 @@ pub use lines::plain;
 pub use selected::{Line, Lines, Selected};
 pub use spellings::spelling;
 pub use tokens::{Kind, Token};
-
