@@ -8,4 +8,5 @@ pub mod quoted;
 pub mod runs;
 pub mod values;
 
+
 pub use runs::{more_length, run_length};
