@@ -1,11 +1,10 @@
 -- What division leaves, by the signs of its operands.
-use Rattle.std.proofs.Common.{◌≡◌, ◌<◌, ℕ, zero, suc, ◌+◌, ◌-◌, ◌*◌, ◌/◌, ◌%◌, ℤ, pos, negsuc, ◌+ℤ◌, ◌*ℤ◌, neg_ℤ, refl, sym, ap, ◌∙◌, subst, arith, mul_comm}
+use Rattle.std.proofs.Common.{◌≡◌, ◌<◌, ℕ, zero, suc, ◌+◌, ◌-◌, ◌*◌, ◌/◌, ◌%◌, ℤ, pos, negsuc, ◌+ℤ◌, neg_ℤ, refl, sym, ap, ◌∙◌, subst, arith, mul_comm}
 use Rattle.std.proofs.Math.Nat.{div-add-mod}
 use Rattle.std.proofs.lemmas.Nat.{mod_below}
 use Rattle.std.proofs.lemmas.Int.{ints}
 use Rattle.std.proofs.lemmas.Int.{quot-rem, rem_below}
-use Rattle.std.specs.Prelude.{int_div, int_rem, unsigned_abs}
-use Rattle.std.specs.Int.{int_rem_euclid}
+use Rattle.std.specs.Prelude.{int_rem, unsigned_abs}
 use Rattle.vd_integers.specs.Divisions.{remainder_of, modulus_of, HasSignOf, IsRemainder, IsModulus}
 
 negated_sign : (n m : ℕ) → HasSignOf (neg_ℤ (pos n)) (negsuc m)
