@@ -1,6 +1,5 @@
 -- A small logic: a pass without states, a pass with them, and a meaning.
-use Rattle.std.specs.Prelude.{ℕ, ◌+◌, Bool, true, false, not, List, [], ◌∷◌, min, if◌then◌else◌}
-use Rattle.vd_bytes.specs.declared.places.Place.{Place}
+use Rattle.std.specs.Prelude.{ℕ, ◌+◌, Bool, true, false, not, [], ◌∷◌, min, if◌then◌else◌}
 use Rattle.vd_forest.specs.Forest.{Forest, nothing, more}
 use Rattle.vd_rewriting.specs.Folding.{Meaning}
 use Rattle.vd_rewriting.specs.Inheriting.{Rules}
