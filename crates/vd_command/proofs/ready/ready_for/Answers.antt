@@ -11,5 +11,8 @@ returns-in-Ok-clause-ready g c =
     let within = subst (λ n. n ≤ 8388608) (sym c.deref.ensures.len) c.in-Ok.ensures.within in
     let content = subst (λ bs. IfSome (g.T.Tray.files c.args.tray.now) (λ files. bs ≡ content_of files c.args.file.now)) same c.in-Ok.ensures.content in
     IfOk-weaker c.file_ready.result _ _
-    (λ ready answer. formed_by g.T.Tray.read_faults c.args.tray.now c.read_all.new.tray (g.T.Tray.files c.args.tray.now) c.args.file.now c.deref.result.now (due_in ready) within content answer)
+    (λ ready answer. formed_by g.T.Tray.read_faults c.args.tray.now c.read_all.new.tray (g.T.Tray.files c.args.tray.now) c.args.file.now (due_in ready) (c.read_all.ensures.no_fault (λ e. cc (c.in-Ok.is, e))) c.deref.result.now within content answer)
     c.file_ready.ensures
+
+pub returns-in-Err-TooLong-clause-ready : goal.returns-in-Err-TooLong-clause-ready
+returns-in-Err-TooLong-clause-ready g c = ?
