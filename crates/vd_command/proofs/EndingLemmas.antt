@@ -117,6 +117,7 @@ module _ {S : Type 0} (is_begun : S → Channel → Bool) (old mid new : S) (sam
         map_before : (is_begun new Map ≡ is_begun mid Map) ⊎ Appends (written mid Design) (written new Design) due.design → (is_begun new Map ≡ is_begun old Map) ⊎ Appends (written old Design) (written new Design) due.design
         map_before (inl still) = inl (still ∙ same_begun Map)
         map_before (inr got) = inr (got_before Design due.design got)
+
         console_before : (is_begun new Console ≡ is_begun mid Console) ⊎ (Appends (written mid Design) (written new Design) due.design × Appends (written mid Map) (written new Map) due.map) → (is_begun new Console ≡ is_begun old Console) ⊎ (Appends (written old Design) (written new Design) due.design × Appends (written old Map) (written new Map) due.map)
         console_before (inl still) = inl (still ∙ same_begun Console)
         console_before (inr got) = inr (got_before Design due.design got.0, got_before Map due.map got.1)

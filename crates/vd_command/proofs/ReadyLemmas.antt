@@ -10,7 +10,7 @@ use Rattle.vd_first_lex.specs.declared.selected.Selected.{Selected}
 use Rattle.vd_first_lex.specs.Lexings.{ColumnsFit, plain_of}
 use Rattle.vd_first_lower.specs.Conversions.{Answer, refused, beyond, converted, IsConversion}
 use Rattle.vd_command.specs.Words.{file_of}
-use Rattle.vd_command.specs.Outcomes.{Due, due_of, limit_number, limit_passed, IsFileOutcome, IsWordsOutcome, IsOutcome}
+use Rattle.vd_command.specs.Outcomes.{Due, refused_words, due_of, limit_number, limit_passed, IsFileOutcome, IsWordsOutcome, IsOutcome}
 use Rattle.vd_command.specs.Endings.{due_with, IsCompleted, IsOutcomeOf, IsDueOrFault, IsCompletedStatus, IsOutcomeOfFile, IsReady, GotAll, GotFronts}
 use Rattle.vd_command.proofs.EndingLemmas.{got_all_before}
 
@@ -45,15 +45,28 @@ module _ {S : Type 0} (read_faults : S → List ℕ → ℕ) (old new : S) (told
     where
       outcome : (content : List ℕ) → limit < length content → IsFileOutcome file content due
       outcome content longer = inl (subst (λ n. n < length content) is longer, e)
+
       long_content : (t : Option (List (List ℕ × List ℕ))) → IfSome t (λ files. limit < length (content_of files file)) → IsOutcomeOfFile t file due
       long_content None h =
           let content = replicate (limit + 1) 0 in
-          outcome_of_file None file content due tt (outcome content (rw (length-replicate (limit + 1) 0) (omega arith)))
+          outcome_of_file None file content due tt (outcome content (rw (length-replicate {A = ℕ} (limit + 1) 0) (omega arith)))
       long_content (Some files) h = outcome_of_file (Some files) file (content_of files file) due refl (outcome (content_of files file) h)
 
 pub due_same : (status : ℕ) {a b c d e f : List ℕ} → a ≡ b → c ≡ d → e ≡ f → due_with status a c e ≡ due_with status b d f
 due_same status {a} {b} {c} {d} {e} {f} x y z =
     ap (λ t. due_with status t c e) x ∙ ap (λ t. due_with status b t e) y ∙ ap (λ t. due_with status b d t) z
+
+-- words that aren't taken, whatever the files hold
+pub refused_outcome : (told : Option (List (List ℕ × List ℕ))) (words : List (List ℕ)) → file_of words ≡ None → IsOutcomeOf told words refused_words
+refused_outcome None words none = record { files = []; are_told = tt; outcome = subst (λ o. IsWordsOutcome o [] refused_words) (sym none) refl }
+refused_outcome (Some files) words none = record { files = files; are_told = refl; outcome = subst (λ o. IsWordsOutcome o files refused_words) (sym none) refl }
+
+-- a status of an outcome isn't that of a fault in writing
+pub not_four : (n : ℕ) → IsCompleted n → n ≢ 4
+not_four n (inl z) f = cc
+not_four n (inr (inl z)) f = cc
+not_four n (inr (inr (inl z))) f = cc
+not_four n (inr (inr (inr z))) f = cc
 
 -- ---- what was ready, after the channels were written
 
@@ -86,12 +99,6 @@ module _ {S : Type 0} (read_faults : S → List ℕ → ℕ) (written : S → Ch
   completed_as due status (IsReady.formed counts s o) all done =
       let got = all (not_four status done) in
       (due, sym got.0, outcome_for due told o, got_all_before written old mid new same due got.1)
-    where
-      not_four : (n : ℕ) → IsCompleted n → n ≢ 4
-      not_four n (inl z) f = cc
-      not_four n (inr (inl z)) f = cc
-      not_four n (inr (inr (inl z))) f = cc
-      not_four n (inr (inr (inr z))) f = cc
 
   -- what was to be written where a write failed
   pub due_or_fault : SameCounts (read_faults mid) (read_faults new) → (due : Due) → IsReady read_faults old mid told file due → IsDueOrFault read_faults old new words told due
