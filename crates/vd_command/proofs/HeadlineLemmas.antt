@@ -10,9 +10,14 @@ use Rattle.vd_first_lower.specs.Steps.{HasOneConversion}
 use Rattle.vd_first_lower.proofs.Faithful.{faithful}
 use Rattle.vd_command.specs.Words.{file_of}
 use Rattle.vd_command.specs.Outcomes.{Due, due_of, conversion, IsFileOutcome, IsWordsOutcome, IsOutcome}
-use Rattle.vd_command.specs.Endings.{GotAll, IsCompleted, IsReady}
+use Rattle.vd_command.specs.Endings.{GotAll, IsCompleted, IsOutcomeOf, IsReady}
 use Rattle.vd_command.specs.Headline.{GotConversion, HasNoFault, ConvertsFile, IsAcceptable, NamesAcceptable}
 use Rattle.vd_command.proofs.OneOutcome.{one_outcome}
+
+-- the outcome of files that are told
+told_outcome : (told : Option (List (List ℕ × List ℕ))) (words : List (List ℕ)) (due : Due) → IsOutcomeOf told words due → IfSome told (λ files. IsOutcome words files due)
+told_outcome None words due o = tt
+told_outcome (Some files) words due o = subst (λ fs. IsOutcome words fs due) o.are_told o.outcome
 
 -- ---- status 0 is a conversion
 
@@ -51,10 +56,10 @@ module _ {S : Type 0} (written : S → Channel → Option (List ℕ)) (old new :
 
   -- what completed says of status 0
   pub completed_converts : (told : Option (List (List ℕ × List ℕ))) (words : List (List ℕ)) (status : ℕ)
-      → (due : Due) × (due.status ≡ status) × IfSome told (λ files. IsOutcome words files due) × GotAll written old new due
+      → (due : Due) × (due.status ≡ status) × IsOutcomeOf told words due × GotAll written old new due
       → status ≡ 0 → IfSome told (λ files. ConvertsFile written old new words files)
   completed_converts told words status x zero_status =
-      IfSome_then told x.2 (λ files o. outcome_converts words files x.0 o (x.1 ∙ zero_status) x.3)
+      IfSome_then told (told_outcome told words x.0 x.2) (λ files o. outcome_converts words files x.0 o (x.1 ∙ zero_status) x.3)
 
 -- ---- files that are accepted
 
@@ -82,10 +87,10 @@ acceptable_status one words files n due o =
     ap (λ (d : Due). d.status) (one_outcome one words files due _ o (outcome_of_acceptable words files n))
 
 pub completed_accepts : HasOneConversion → (told : Option (List (List ℕ × List ℕ))) (words : List (List ℕ)) (status : ℕ) (Got : Due → Type 0)
-    → (due : Due) × (due.status ≡ status) × IfSome told (λ files. IsOutcome words files due) × Got due
+    → (due : Due) × (due.status ≡ status) × IsOutcomeOf told words due × Got due
     → IfSome told (λ files. NamesAcceptable words files → status ≡ 0)
 completed_accepts one told words status Got x =
-    IfSome_then told x.2 (λ files o n. sym x.1 ∙ acceptable_status one words files n x.0 o)
+    IfSome_then told (told_outcome told words x.0 x.2) (λ files o n. sym x.1 ∙ acceptable_status one words files n x.0 o)
 
 -- ---- no fault
 
@@ -99,5 +104,5 @@ module _ {S : Type 0} (read_faults : S → List ℕ → ℕ) (write_faults : S �
   -- where what is due was written, and no fault came, the outcome is reached
   pub written_completes : (due : Due) → IsReady read_faults old mid told file due → (status : ℕ) → (status ≡ due.status) ⊎ (status ≡ 4) → (status ≡ 4 → Rose (write_faults mid) (write_faults new)) → HasNoFault read_faults write_faults old new words → IsCompleted status
   written_completes due (IsReady.faulted rose e) status either four none = absurd (none.reading file names (subst (Rose (read_faults old file)) (sym read_counts) rose))
-  written_completes due (IsReady.formed s o) status (inl same) four none = subst IsCompleted (sym same) (of_file due.status s.status)
-  written_completes due (IsReady.formed s o) status (inr is_four) four none = absurd (none.writing (subst (λ n. Rose n (write_faults new)) write_count (four is_four)))
+  written_completes due (IsReady.formed counts s o) status (inl same) four none = subst IsCompleted (sym same) (of_file due.status s.status)
+  written_completes due (IsReady.formed counts s o) status (inr is_four) four none = absurd (none.writing (subst (λ n. Rose n (write_faults new)) write_count (four is_four)))

@@ -1,7 +1,7 @@
 //! What is to be written, formed whole before the first byte is.
 
-ghost use Rattle.std.specs.Prelude.{◌≡◌, ◌≢◌, ◌≤◌, ◌<◌, ◌⊎◌, ℕ, List, [], length, IfOk, IfSome, vec_len, string_bytes};
-ghost use Rattle.vd_bytes.specs.Trays.{Rose, OnlyReads, content_of};
+ghost use Rattle.std.specs.Prelude.{◌≡◌, ◌≢◌, ◌≤◌, ◌<◌, ◌⊎◌, ℕ, List, [], length, IfOk, OnErr, IfSome, vec_len, string_bytes};
+ghost use Rattle.vd_bytes.specs.Trays.{Rose, SameCounts, OnlyReads, content_of};
 ghost use Rattle.vd_first_lower.specs.Conversions.{Answer, refused, beyond, converted, IsConversion};
 ghost use Rattle.vd_first_lex.specs.Lexings.{plain_of};
 ghost use Rattle.vd_command.specs.Outcomes.{Due, read_fault, limit_passed, due_of, IsFileOutcome};
@@ -30,18 +30,18 @@ pub(crate) fn ready_for<T: Tray>(
     file: &str,
 ) -> Result<Ready, AllocError>
     ensures ready { IfOk result (λ ready. IsReady T.read_faults tray.old tray.new (T.files tray.old) file.now (due_in ready)) }
-    ensures only_reads { OnlyReads T.files T.written T.read_faults T.write_faults tray.old tray.new }
+    ensures memory { OnErr result (SameCounts (T.read_faults tray.old) (T.read_faults tray.new)) }
+    ensures only_reads { OnlyReads T.files T.written T.is_begun T.read_faults T.write_faults tray.old tray.new }
 {
+    // The line of a fault is formed before a fault can come, so that want of memory never hides one.
+    let fault = read_fault_line(alloc, file)?;
     match read_all(alloc, tray, file, INPUT_LIMIT) {
         Ok(bytes) => file_ready(alloc, file, &bytes),
         Err(ReadEnd::TooLong) => {
             let line = limit_line(alloc, Limit::Input)?;
             Ok(line_ready(alloc, 6, line))
         }
-        Err(ReadEnd::ReadFault) => {
-            let line = read_fault_line(alloc, file)?;
-            Ok(line_ready(alloc, 3, line))
-        }
+        Err(ReadEnd::ReadFault) => Ok(line_ready(alloc, 3, fault)),
         Err(ReadEnd::Memory) => Err(AllocError),
     }
 }

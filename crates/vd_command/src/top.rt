@@ -1,11 +1,11 @@
 //! The top call: words and files in, a status and bytes on three channels out.
 
-ghost use Rattle.std.specs.Prelude.{◌≡◌, ◌≢◌, ◌<◌, ◌≤◌, ◌⊎◌, ℕ, List, [], length, None, Some, IfOk, OnOk, OnErr, IfSome, IsFalse};
+ghost use Rattle.std.specs.Prelude.{◌≡◌, ◌≢◌, ◌<◌, ◌≤◌, ◌⊎◌, ℕ, List, [], length, None, Some, IfOk, OnOk, OnErr, IfSome, IsTrue, IsFalse};
 ghost use Rattle.vd_bytes.specs.declared.channels.Channel.{Channel};
-ghost use Rattle.vd_bytes.specs.Trays.{Rose};
+ghost use Rattle.vd_bytes.specs.Trays.{Rose, SameCounts};
 ghost use Rattle.vd_command.specs.Words.{file_of, texts_of};
 ghost use Rattle.vd_command.specs.Outcomes.{Due, refused_words, read_fault, HasOneOutcome, IsFileOutcome, IsOutcome};
-ghost use Rattle.vd_command.specs.Endings.{GotAll, GotFronts, GotNothing, IsCompleted, IsDueOrFault, IsReady, due_in, due_with};
+ghost use Rattle.vd_command.specs.Endings.{GotAll, GotFronts, GotNothing, FilesUntouched, BeginsInOrder, IsCompleted, IsOutcomeOf, IsDueOrFault, IsReady, due_in, due_with};
 ghost use Rattle.vd_command.specs.Headline.{ConvertsFile, HasNoFault, NamesAcceptable};
 
 use crate::console::REFUSED_WORDS;
@@ -22,7 +22,7 @@ const MEMORY: u8 = 5;
 pub fn vdown<T: Tray>(alloc: Global, words: &Vec<String>, tray: &mut T) -> u8
     // With the statuses 0, 1, 2 and 6 the outcome of words and files is reached, and each channel got its due bytes.
     ensures completed { IsCompleted result → (due : Due) × (due.status ≡ result)
-        × IfSome (T.files tray.old) (λ told. IsOutcome (texts_of words.now.items) told due)
+        × IsOutcomeOf (T.files tray.old) (texts_of words.now.items) due
         × GotAll T.written tray.old tray.new due }
 
     // With status 0 Design and Map got a design and a map that say what the file says: a 1993 text with a whole map, the
@@ -50,15 +50,27 @@ pub fn vdown<T: Tray>(alloc: Global, words: &Vec<String>, tray: &mut T) -> u8
     // After a fault in writing each channel got a front of its due bytes, a later one only where the earlier ones got all.
     ensures write_fault { result ≡ 4 → Rose (T.write_faults tray.old) (T.write_faults tray.new) }
     ensures fronts { result ≡ 4 → (due : Due)
-        × IfSome (T.files tray.old) (λ told. IsDueOrFault T.read_faults tray.old tray.new (texts_of words.now.items) told due)
-        × GotFronts T.written tray.old tray.new due }
+        × IsDueOrFault T.read_faults tray.old tray.new (texts_of words.now.items) (T.files tray.old) due
+        × GotFronts T.written tray.old tray.new due × BeginsInOrder T.written T.is_begun tray.old tray.new due
+        × (due.status ≢ 0 → FilesUntouched T.is_begun tray.old tray.new) }
 
     // Design and Map are written with a conversion alone.
     ensures no_design { result ≢ 0 → result ≢ 4 → GotNothing T.written tray.old tray.new Channel.Design }
     ensures no_map { result ≢ 0 → result ≢ 4 → GotNothing T.written tray.old tray.new Channel.Map }
 
-    // Nothing is written before all bytes are formed.
+    // A conversion begins every channel, so that no old file stays beside a new one. After another status the files of Design and Map
+    // are neither created nor emptied.
+    ensures begun { result ≡ 0 → (to : Channel) → IsTrue (T.is_begun tray.new to) }
+    ensures console_begun { result ≢ 4 → result ≢ 5 → IsTrue (T.is_begun tray.new Channel.Console) }
+    ensures untouched { result ≢ 0 → result ≢ 4 → FilesUntouched T.is_begun tray.old tray.new }
+
+    // No fault is hidden: where one came in writing the status is 4, and where one came in reading it is 3, or 4.
+    ensures no_write_fault { result ≢ 4 → T.write_faults tray.new ≡ T.write_faults tray.old }
+    ensures no_read_fault { result ≢ 3 → result ≢ 4 → SameCounts (T.read_faults tray.old) (T.read_faults tray.new) }
+
+    // Nothing is written, and no channel begun, before all bytes are formed.
     ensures memory { result ≡ 5 → (to : Channel) → GotNothing T.written tray.old tray.new to }
+    ensures memory_begun { result ≡ 5 → (to : Channel) → T.is_begun tray.new to ≡ T.is_begun tray.old to }
     ensures statuses { result < 7 }
     ensures same_files { T.files tray.new ≡ T.files tray.old }
 {
@@ -92,7 +104,12 @@ fn write_due<T: Tray>(tray: &mut T, status: u8, design: &[u8], map: &[u8], conso
     ensures fault { result ≡ 4 → Rose (T.write_faults tray.old) (T.write_faults tray.new) }
     ensures fronts { result ≡ 4
         → GotFronts T.written tray.old tray.new (due_with status design.now map.now console.now) }
-    ensures read_counts { (name : List ℕ) → T.read_faults tray.new name ≡ T.read_faults tray.old name }
+    ensures read_counts { SameCounts (T.read_faults tray.old) (T.read_faults tray.new) }
+    ensures in_order { result ≡ 4 → BeginsInOrder T.written T.is_begun tray.old tray.new (due_with status design.now map.now console.now) }
+    ensures begun { result ≡ 0 → (to : Channel) → IsTrue (T.is_begun tray.new to) }
+    ensures console_begun { result ≢ 4 → IsTrue (T.is_begun tray.new Channel.Console) }
+    ensures untouched { status ≢ 0 → FilesUntouched T.is_begun tray.old tray.new }
+    ensures no_fault { result ≢ 4 → T.write_faults tray.new ≡ T.write_faults tray.old }
     ensures no_design { status ≢ 0 → GotNothing T.written tray.old tray.new Channel.Design }
     ensures no_map { status ≢ 0 → GotNothing T.written tray.old tray.new Channel.Map }
     ensures same_files { T.files tray.new ≡ T.files tray.old }
@@ -116,7 +133,12 @@ fn write_channels<T: Tray>(
     ensures all { OnOk result (GotAll T.written tray.old tray.new (due_with 0 design.now map.now console.now)) }
     ensures fault { OnErr result (Rose (T.write_faults tray.old) (T.write_faults tray.new)) }
     ensures fronts { OnErr result (GotFronts T.written tray.old tray.new (due_with 0 design.now map.now console.now)) }
-    ensures read_counts { (name : List ℕ) → T.read_faults tray.new name ≡ T.read_faults tray.old name }
+    ensures read_counts { SameCounts (T.read_faults tray.old) (T.read_faults tray.new) }
+    ensures in_order { OnErr result (BeginsInOrder T.written T.is_begun tray.old tray.new (due_with 0 design.now map.now console.now)) }
+    ensures begun { OnOk result (IsTrue conversion → (to : Channel) → IsTrue (T.is_begun tray.new to)) }
+    ensures console_begun { OnOk result (IsTrue (T.is_begun tray.new Channel.Console)) }
+    ensures untouched { IsFalse conversion → FilesUntouched T.is_begun tray.old tray.new }
+    ensures no_fault { OnOk result (T.write_faults tray.new ≡ T.write_faults tray.old) }
     ensures no_design { IsFalse conversion → GotNothing T.written tray.old tray.new Channel.Design }
     ensures no_map { IsFalse conversion → GotNothing T.written tray.old tray.new Channel.Map }
     ensures same_files { T.files tray.new ≡ T.files tray.old }

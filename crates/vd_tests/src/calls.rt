@@ -99,6 +99,11 @@ pub fn called(
     assert_eq!(rt; status, due.status);
     assert_eq!(rt; tray.out(Channel::Design), due.design);
     assert_eq!(rt; tray.out(Channel::Map), due.map);
+    // A refusal neither creates nor empties a file.
+    if status != 0 && status != 4 {
+        assert!(rt; !tray.is_begun(Channel::Design));
+        assert!(rt; !tray.is_begun(Channel::Map));
+    }
     Ok(())
 }
 

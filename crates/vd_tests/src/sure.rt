@@ -1,18 +1,11 @@
-//! Over a tray that never fails, no fault is answered.
+//! Over a tray that never fails.
 
-ghost use Rattle.std.specs.Prelude.{◌≡◌, ◌≢◌, IfOk, vec_len};
+ghost use Rattle.std.specs.Prelude.{◌≡◌, IfOk, vec_len};
 
 use std::alloc::{AllocError, Global};
 use std::test::Fail;
 use vd_bytes::SureTray;
-use vd_command::vdown;
-
-fn vdown_surely(alloc: Global, words: &Vec<String>, tray: &mut SureTray) -> u8
-    ensures no_read_fault { result ≢ 3 }
-    ensures no_write_fault { result ≢ 4 }
-{
-    vdown(alloc, words, tray)
-}
+use vd_command::sure_call;
 
 fn no_files(alloc: Global) -> Result<SureTray, AllocError> {
     SureTray::new(alloc, Vec::new(alloc), Vec::new(alloc))
@@ -25,6 +18,6 @@ fn a_missing_file_is_an_empty_one(rt: HostRuntime) -> Result<(), Fail> {
         words.push(String::from_str(rt.alloc(), word)?)?;
     }
     let mut tray = no_files(rt.alloc())?;
-    assert_eq!(rt; vdown_surely(rt.alloc(), &words, &mut tray), 1);
+    assert_eq!(rt; sure_call(rt.alloc(), &words, &mut tray), 1);
     Ok(())
 }

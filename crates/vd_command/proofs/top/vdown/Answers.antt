@@ -1,7 +1,9 @@
 use Rattle.std.proofs.Common.{sym, subst, inl}
 use Rattle.vd_command.specs.Words.{texts_of}
-use Rattle.vd_command.specs.Endings.{GotAll, GotFronts, due_in}
-use Rattle.vd_command.proofs.ReadyLemmas.{due_same, completed_as, fronts_as}
+use Rattle.vd_command.specs.Outcomes.{refused_words}
+use Rattle.vd_command.specs.Endings.{GotAll, GotFronts, BeginsInOrder, due_in}
+use Rattle.vd_command.proofs.EndingLemmas.{got_fronts_before, untouched_before, in_order_before}
+use Rattle.vd_command.proofs.ReadyLemmas.{due_same, not_four, refused_outcome, completed_as, due_or_fault, counts_kept}
 use Rattle.vd_first_lower.proofs.OneConversion.{one_conversion}
 use Rattle.vd_command.proofs.HeadlineLemmas.{completed_converts, completed_accepts, written_completes}
 use Rattle.vd_command.proofs.top.vdown.Goals as goal
@@ -17,10 +19,26 @@ returns-in-Ok-clause-completed g c =
 
 pub returns-in-Ok-clause-fronts : goal.returns-in-Ok-clause-fronts
 returns-in-Ok-clause-fronts g c = λ four.
-    fronts_as g.T.Tray.read_faults g.T.Tray.written (g.T.Tray.files c.args.tray.now) (texts_of c.args.words.now.items) c.in-Some.file.now (sym c.in-Some.ensures)
-    c.args.tray.now c.ready_for.new.tray c.write_due-in-Ok.new.tray c.ready_for.ensures.only_reads.same_channels
-    c.write_due-in-Ok.ensures.read_counts (due_in c.in-Ok.ready) c.in-Ok.ensures.ready
-    (subst (GotFronts g.T.Tray.written c.ready_for.new.tray c.write_due-in-Ok.new.tray) (due_same c.in-Ok.ready.status c.as_slice.ensures c.deref.ensures.value c.deref-in-Ok.ensures.value) (c.write_due-in-Ok.ensures.fronts four))
+    let written = g.T.Tray.written in
+    let is_begun = g.T.Tray.is_begun in
+    let old = c.args.tray.now in
+    let mid = c.ready_for.new.tray in
+    let new = c.write_due-in-Ok.new.tray in
+    let due = due_in c.in-Ok.ready in
+    let reads = c.ready_for.ensures.only_reads in
+    let wrote = c.write_due-in-Ok.ensures in
+    let same = due_same c.in-Ok.ready.status c.as_slice.ensures c.deref.ensures.value c.deref-in-Ok.ensures.value in (
+      due,
+      due_or_fault g.T.Tray.read_faults written (g.T.Tray.files old) (texts_of c.args.words.now.items) c.in-Some.file.now (sym c.in-Some.ensures) old mid new reads.same_channels wrote.read_counts due c.in-Ok.ensures.ready,
+      got_fronts_before written old mid new reads.same_channels due (subst (GotFronts written mid new) same (wrote.fronts four)),
+      in_order_before is_begun old mid new reads.same_begun written reads.same_channels due (subst (BeginsInOrder written is_begun mid new) same (wrote.in_order four)),
+      λ ne. untouched_before is_begun old mid new reads.same_begun (wrote.untouched ne),
+    )
+
+pub returns-in-Ok-clause-no_read_fault : goal.returns-in-Ok-clause-no_read_fault
+returns-in-Ok-clause-no_read_fault g c = λ three four.
+    counts_kept g.T.Tray.read_faults c.args.tray.now c.ready_for.new.tray c.write_due-in-Ok.new.tray (g.T.Tray.files c.args.tray.now) c.in-Some.file.now
+    c.write_due-in-Ok.ensures.read_counts (due_in c.in-Ok.ready) c.in-Ok.ensures.ready c.write_due-in-Ok.result c.write_due-in-Ok.ensures.either three four
 
 pub returns-in-Ok-clause-headline : goal.returns-in-Ok-clause-headline
 returns-in-Ok-clause-headline g c = λ done.
@@ -33,3 +51,18 @@ returns-in-Ok-clause-accepts g c = λ no_fault enough.
     (c.write_due-in-Ok.ensures.read_counts c.in-Some.file.now) c.ready_for.ensures.only_reads.write_count (due_in c.in-Ok.ready) c.in-Ok.ensures.ready c.write_due-in-Ok.result c.write_due-in-Ok.ensures.either c.write_due-in-Ok.ensures.fault no_fault in
     completed_accepts one_conversion (g.T.Tray.files c.args.tray.now) (texts_of c.args.words.now.items) c.write_due-in-Ok.result (GotAll g.T.Tray.written c.args.tray.now c.write_due-in-Ok.new.tray)
     (returns-in-Ok-clause-completed g c completed)
+
+pub returns-in_default-clause-completed : goal.returns-in_default-clause-completed
+returns-in_default-clause-completed g c = λ done.
+    let all = c.write_due.ensures.all (not_four c.write_due.result done) in
+    (refused_words, sym all.0, refused_outcome (g.T.Tray.files c.args.tray.now) (texts_of c.args.words.now.items) (sym c.in_default.ensures), all.1)
+
+pub returns-in_default-clause-fronts : goal.returns-in_default-clause-fronts
+returns-in_default-clause-fronts g c = λ four.
+    let wrote = c.write_due.ensures in (
+      refused_words,
+      inl (wrote.read_counts, refused_outcome (g.T.Tray.files c.args.tray.now) (texts_of c.args.words.now.items) (sym c.in_default.ensures)),
+      wrote.fronts four,
+      wrote.in_order four,
+      λ ne. wrote.untouched (λ e. cc),
+    )

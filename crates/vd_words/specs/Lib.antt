@@ -1,0 +1,4 @@
+pub mod Commands
+pub mod Given
+pub mod Plans
+pub mod Words

@@ -1,0 +1,13 @@
+//! The words of the command line that are taken, and the command that they mean.
+#![tactic(auto)]
+
+pub mod command;
+mod given;
+mod numbers;
+mod plan;
+pub mod reading;
+#[cfg(test)]
+mod tests;
+
+pub use command::{Command, Mode, Texts, WordsEnd};
+pub use reading::read_words;
