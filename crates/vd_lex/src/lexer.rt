@@ -1,0 +1,172 @@
+//! The lexer of both revisions.
+
+ghost use Rattle.std.specs.Prelude.{◌≡◌, ◌++◌, ◌∷◌, ◌+◌, ◌<◌, ◌≤◌, ◌^◌, [], List, ℕ, true, false, length, drop, slice_index, IfOk, IfErr, OnOk, Some, None};
+ghost use Rattle.std.specs.List.{AllByRecursion};
+ghost use Rattle.vd_trees.specs.declared.revision.Revision.TheVariants.{V2019, V1993};
+ghost use Rattle.vd_tokens.specs.Lexemes.{Lexeme};
+ghost use Rattle.vd_tokens.specs.declared.kinds.Kind.TheVariants.{End};
+ghost use Rattle.vd_directives.specs.Lines.{ColumnsFit, end_place};
+ghost use Rattle.vd_lex.specs.Items.{item_of, FoundFits};
+ghost use Rattle.vd_lex.specs.Pieces as pieces;
+ghost use Rattle.vd_lex.specs.Pieces.{piece_at, checked, first_state, past_line};
+ghost use Rattle.vd_lex.specs.Lexis.{IsTokenList, IsBreakOf, HasOneLexing, HasSomeLexing};
+ghost use Rattle.vd_lex.specs.Scans.{IsPieceRead, IsRefusedBy};
+ghost use Rattle.vd_lex.specs.Items as items;
+
+use crate::items::{Buffers, Found, item_found};
+use crate::states::State;
+use crate::tables::{MarkTable, ReservedWords};
+use std::alloc::{AllocError, Global};
+use vd_bytes::{Place, Refusal, Refused};
+use vd_directives::{Line, Selected};
+use vd_tokens::{Kind, Tokens};
+use vd_trees::Revision;
+
+fn is_spacing(b: u8) -> bool
+    ensures { result ≡ pieces.is_spacing b }
+{
+    b == b' ' || (9 <= b && b <= 13)
+}
+
+fn is_number(kind: Option<Kind>) -> bool
+    ensures { result ≡ pieces.is_number kind }
+{
+    match kind {
+        Some(Kind::Number) => true,
+        _ => false,
+    }
+}
+
+fn is_name_or_word(kind: Option<Kind>) -> bool
+    ensures { result ≡ pieces.is_name_or_word kind }
+{
+    match kind {
+        Some(Kind::Name) => true,
+        Some(Kind::Word(_)) => true,
+        _ => false,
+    }
+}
+
+/// Whether two neighbours need spacing between them.
+fn need_spacing(last: Option<Kind>, next: Option<Kind>) -> bool
+    ensures { result ≡ pieces.need_spacing last next }
+{
+    (is_number(last) && (is_number(next) || is_name_or_word(next)))
+        || (is_name_or_word(last) && is_number(next))
+}
+
+/// Whether a comment begins that may go on over lines.
+fn begins_comment(revision: Revision, rest: &[u8]) -> bool
+    requires { 0 < length rest.now }
+    ensures { result ≡ pieces.begins_comment revision (slice_index rest.now 0) (drop 1 rest.now) }
+{
+    match revision {
+        Revision::V2019 => match rest {
+            [b'/', b'*', ..] => true,
+            _ => false,
+        },
+        Revision::V1993 => false,
+    }
+}
+
+/// Whether a comment begins that ends with the line.
+fn begins_line_comment(rest: &[u8]) -> bool
+    requires { 0 < length rest.now }
+    ensures { result ≡ pieces.begins_line_comment (slice_index rest.now 0) (drop 1 rest.now) }
+{
+    match rest {
+        [b'-', b'-', ..] => true,
+        _ => false,
+    }
+}
+
+/// Whether a comment ends.
+fn ends_comment(rest: &[u8]) -> bool
+    requires { 0 < length rest.now }
+    ensures { result ≡ pieces.ends_comment (slice_index rest.now 0) (drop 1 rest.now) }
+{
+    match rest {
+        [b'*', b'/', ..] => true,
+        _ => false,
+    }
+}
+
+/// What a run of the lexer holds: buffers for texts, what is known of what was read, and the tokens.
+#[derive(Drop)]
+struct Lexer {
+    buffers: Buffers,
+    state: State,
+    tokens: Tokens,
+}
+
+impl Lexer {
+    fn new(alloc: Global) -> Lexer
+        ensures state { result.state ≡ first_state }
+        ensures tokens { result.tokens ≡ [] }
+    {
+        Lexer {
+            buffers: Buffers::new(alloc),
+            state: State {
+                last: None,
+                near: false,
+                comment: None,
+            },
+            tokens: Tokens::new(alloc),
+        }
+    }
+
+    /// Whether a token of this kind stands too near to the one that was read last.
+    fn is_too_near(&self, next: Option<Kind>) -> bool
+        ensures { result ≡ pieces.is_too_near self.now.state next }
+    {
+        self.state.near && need_spacing(self.state.last, next)
+    }
+
+    /// Reads the token that stands first, behind no spacing and no comment. It answers the token's length.
+    fn read_token(
+        &mut self,
+        words: &ReservedWords,
+        marks: &MarkTable,
+        place: Place,
+        rest: &[u8],
+    ) -> Result<usize, Refusal>
+        requires some { 0 < length rest.now }
+        requires same { marks.now.revision ≡ words.now.revision }
+        ensures read { IfOk result (λ n. IsPieceRead (checked self.old.state
+            (items.item_at words.now.revision self.old.state.last rest.now)) place n
+            self.new.state self.old.tokens self.new.tokens) }
+        ensures within { IfOk result (λ n. (0 < n) × (n ≤ length rest.now)) }
+        ensures broken { IfErr result (IsRefusedBy (checked self.old.state
+            (items.item_at words.now.revision self.old.state.last rest.now)) place) }
+    {
+        let found = item_found(words, marks, &mut self.buffers, self.state.last, rest)
+            .map_err(|_| Refusal::Memory)?;
+        match found {
+            Found::Taken {
+                n,
+                kind,
+                count,
+                fill,
+                from,
+            } => {
+                if self.is_too_near(Some(kind)) {
+                    return Err(Refusal::Refused(Refused { place, rule: 103 }));
+                }
+                let text = &self.buffers.text[from..];
+                self.tokens
+                    .push_filled(kind, count, fill, text, place)
+                    .map_err(|_| Refusal::Memory)?;
+                self.state = State {
+                    last: Some(kind),
+                    near: true,
+                    comment: None,
+                };
+                Ok(n)
+            }
+            Found::Wrong { kind, rule } => {
+                let rule = if self.is_too_near(kind) { 103 } else { rule };
+                Err(Refusal::Refused(Refused { place, rule }))
+            }
+        }
+    }
+}

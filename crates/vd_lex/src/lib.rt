@@ -1,0 +1,9 @@
+//! The lexis of both revisions: a text's token list, or where it breaks.
+#![tactic(auto)]
+
+pub mod items;
+pub mod lexer;
+pub mod states;
+mod tables;
+
+pub use vd_tokens::{Kind, Token, Tokens, spell, spell_into};
