@@ -440,7 +440,7 @@ fn first_of(b: u8) -> First
 }
 
 /// What stands first, behind this token. The buffers hold its text.
-fn item_found(
+pub(crate) fn item_found(
     words: &ReservedWords,
     marks: &MarkTable,
     buffers: &mut Buffers,

@@ -1,6 +1,6 @@
 //! The lexer of both revisions.
 
-ghost use Rattle.std.specs.Prelude.{◌≡◌, ◌++◌, ◌∷◌, ◌+◌, ◌<◌, ◌≤◌, ◌^◌, [], List, ℕ, true, false, length, drop, slice_index, IfOk, IfErr, OnOk, Some, None};
+ghost use Rattle.std.specs.Prelude.{◌≡◌, ◌++◌, ◌∷◌, ◌+◌, ◌<◌, ◌≤◌, ◌^◌, [], List, ℕ, true, false, length, drop, slice_index, IfOk, IfErr, OnOk, Some, None, if◌then◌else◌};
 ghost use Rattle.std.specs.List.{AllByRecursion};
 ghost use Rattle.vd_trees.specs.declared.revision.Revision.TheVariants.{V2019, V1993};
 ghost use Rattle.vd_tokens.specs.Lexemes.{Lexeme};
@@ -10,7 +10,7 @@ ghost use Rattle.vd_lex.specs.Items.{item_of, FoundFits};
 ghost use Rattle.vd_lex.specs.Pieces as pieces;
 ghost use Rattle.vd_lex.specs.Pieces.{piece_at, checked, first_state, past_line};
 ghost use Rattle.vd_lex.specs.Lexis.{IsTokenList, IsBreakOf, HasOneLexing, HasSomeLexing};
-ghost use Rattle.vd_lex.specs.Scans.{IsPieceRead, IsRefusedBy};
+ghost use Rattle.vd_lex.specs.Scans.{IsPieceRead, IsRefusedBy, IsLineRead, IsLineRefused};
 ghost use Rattle.vd_lex.specs.Items as items;
 
 use crate::items::{Buffers, Found, item_found};
@@ -167,6 +167,170 @@ impl Lexer {
                 let rule = if self.is_too_near(kind) { 103 } else { rule };
                 Err(Refusal::Refused(Refused { place, rule }))
             }
+        }
+    }
+
+    /// Passes over what stands first in a comment that may go on over lines. It answers how many bytes that are.
+    fn pass_comment(&mut self, rest: &[u8]) -> usize
+        requires { 0 < length rest.now }
+        ensures state { self.new.state ≡ (if pieces.ends_comment (slice_index rest.now 0) (drop 1 rest.now)
+            then pieces.with_comment None self.old.state else self.old.state) }
+        ensures bytes { result ≡ (if pieces.ends_comment (slice_index rest.now 0) (drop 1 rest.now) then 2 else 1) }
+        ensures within { result ≤ length rest.now }
+        ensures tokens { self.new.tokens ≡ self.old.tokens }
+    {
+        if ends_comment(rest) {
+            self.state.comment = None;
+            2
+        } else {
+            1
+        }
+    }
+
+    /// Reads the piece that stands first outside such a comment. It answers the piece's length.
+    fn read_outside(
+        &mut self,
+        words: &ReservedWords,
+        marks: &MarkTable,
+        place: Place,
+        rest: &[u8],
+    ) -> Result<usize, Refusal>
+        requires some { 0 < length rest.now }
+        requires same { marks.now.revision ≡ words.now.revision }
+        ensures read { IfOk result (λ n. IsPieceRead (pieces.outside words.now.revision self.old.state place
+            (slice_index rest.now 0) (drop 1 rest.now)) place n self.new.state self.old.tokens self.new.tokens) }
+        ensures within { IfOk result (λ n. (0 < n) × (n ≤ length rest.now)) }
+        ensures broken { IfErr result (IsRefusedBy (pieces.outside words.now.revision self.old.state place
+            (slice_index rest.now 0) (drop 1 rest.now)) place) }
+    {
+        if is_spacing(rest[0]) {
+            self.state.near = false;
+            return Ok(1);
+        }
+        if begins_line_comment(rest) {
+            return Ok(rest.len());
+        }
+        if begins_comment(words.revision, rest) {
+            self.state.comment = Some(place);
+            return Ok(2);
+        }
+        let n = self.read_token(words, marks, place, rest)?;
+        Ok(n)
+    }
+
+    /// Reads one piece of a line. It answers the piece's length.
+    fn read_piece(
+        &mut self,
+        words: &ReservedWords,
+        marks: &MarkTable,
+        place: Place,
+        rest: &[u8],
+    ) -> Result<usize, Refusal>
+        requires some { 0 < length rest.now }
+        requires same { marks.now.revision ≡ words.now.revision }
+        ensures read { IfOk result (λ n. IsPieceRead (piece_at words.now.revision self.old.state place rest.now) place n
+            self.new.state self.old.tokens self.new.tokens) }
+        ensures within { IfOk result (λ n. (0 < n) × (n ≤ length rest.now)) }
+        ensures broken { IfErr result
+            (IsRefusedBy (piece_at words.now.revision self.old.state place rest.now) place) }
+    {
+        match self.state.comment {
+            Some(_) => {
+                let n = self.pass_comment(rest);
+                Ok(n)
+            }
+            None => {
+                let n = self.read_outside(words, marks, place, rest)?;
+                Ok(n)
+            }
+        }
+    }
+
+    /// Passes over the end of a line.
+    fn pass_line_end(&mut self)
+        ensures state { self.new.state ≡ past_line self.old.state }
+        ensures tokens { self.new.tokens ≡ self.old.tokens }
+    {
+        match self.state.comment {
+            Some(_) => {}
+            None => self.state.near = false,
+        }
+    }
+
+    /// Reads the text of a line.
+    fn read_line(
+        &mut self,
+        words: &ReservedWords,
+        marks: &MarkTable,
+        file: u32,
+        line: &Line,
+    ) -> Result<(), Refusal>
+        requires same { marks.now.revision ≡ words.now.revision }
+        requires fits { length line.now.bytes + 1 < 2 ^ 32 }
+        ensures read { OnOk result (IsLineRead words.now.revision file line.now self.old.tokens self.new.tokens
+            self.old.state self.new.state) }
+        ensures broken { IfErr result (IsLineRefused words.now.revision file line.now self.old.state) }
+    {
+        let mut rest = line.bytes.as_slice();
+        let mut place = Place {
+            file,
+            line: line.number,
+            column: 1,
+        };
+        while !rest.is_empty() {
+            let n = self.read_piece(words, marks, place, rest)?;
+            let (_, after) = rest.split_at(n);
+            rest = after;
+            place.column += n as u32;
+        }
+        Ok(())
+    }
+}
+
+/// The place behind the last byte of the last line.
+fn end_of(text: &Selected) -> Place
+    requires { ColumnsFit text.now }
+    ensures { result ≡ end_place text.now.file text.now.lines }
+{
+    match text.lines.as_slice().last() {
+        Some(line) => Place {
+            file: text.file,
+            line: line.number,
+            column: (line.bytes.as_slice().len() + 1) as u32,
+        },
+        None => Place {
+            file: text.file,
+            line: 1,
+            column: 1,
+        },
+    }
+}
+
+/// The tokens of a text of some revision.
+fn lex(alloc: Global, revision: Revision, text: &Selected) -> Result<Tokens, Refusal>
+    requires { ColumnsFit text.now }
+    ensures read { IfOk result (λ ts. IsTokenList revision text.now ts) }
+    ensures broken { IfErr result (IsBreakOf revision text.now) }
+{
+    let words = ReservedWords::new(alloc, revision).map_err(|_| Refusal::Memory)?;
+    let marks = MarkTable::new(alloc, revision).map_err(|_| Refusal::Memory)?;
+    let mut lexer = Lexer::new(alloc);
+    for line in text.lines.as_slice() {
+        lexer.pass_line_end();
+        lexer.read_line(&words, &marks, text.file, line)?;
+    }
+    let Lexer {
+        buffers: _,
+        state,
+        mut tokens,
+    } = lexer;
+    match state.comment {
+        Some(place) => Err(Refusal::Refused(Refused { place, rule: 102 })),
+        None => {
+            tokens
+                .push(Kind::End, &[], end_of(text))
+                .map_err(|_| Refusal::Memory)?;
+            Ok(tokens)
         }
     }
 }
