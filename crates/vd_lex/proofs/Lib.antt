@@ -1,2 +1,4 @@
+pub mod LexingLaws
 pub mod ReadLemmas
+pub mod SizeLemmas
 pub mod TableLemmas

@@ -1,6 +1,6 @@
 -- What is read of a text, piece by piece and line by line.
-use Rattle.std.proofs.Common.{◌≡◌, ℕ, true, false, eqb, zero, suc, ◌+◌, ◌-◌, ◌<◌, ◌≤◌, List, [], ◌∷◌, ◌++◌, length, drop, get_or, Option, Some, None, Result, Ok, Err, is_ok, OnOk, refl, sym, ap, ◌∙◌, subst, arith, append_assoc}
-use Rattle.std.proofs.lemmas.List.{append-nil}
+use Rattle.std.proofs.Common.{◌≡◌, ℕ, true, false, eqb, zero, suc, ◌+◌, ◌-◌, ◌<◌, ◌≤◌, List, [], ◌∷◌, ◌++◌, length, drop, get_or, Option, Some, None, Result, Ok, Err, is_ok, OnOk, IfOk, IfErr, refl, sym, ap, ◌∙◌, subst, arith, append_assoc}
+use Rattle.std.proofs.lemmas.List.{append-nil, drop_more, drop_all}
 use Rattle.vd_bytes.specs.declared.answers.Refusal.{Refusal}
 use Rattle.vd_bytes.specs.declared.answers.Refusal.TheVariants.{Refused, Memory}
 use Rattle.vd_bytes.specs.declared.places.Place.{Place}
@@ -8,11 +8,12 @@ use Rattle.vd_trees.specs.declared.revision.Revision.{Revision}
 use Rattle.vd_directives.specs.declared.selected.Line.{Line}
 use Rattle.vd_directives.specs.declared.selected.Selected.{Selected}
 use Rattle.vd_directives.specs.Lines.{place_at, end_place}
+use Rattle.vd_tokens.specs.declared.kinds.Kind.TheVariants.{End}
 use Rattle.vd_tokens.specs.Lexemes.{Lexeme}
 use Rattle.vd_lex.specs.declared.states.State.{State}
 use Rattle.vd_lex.specs.Pieces.{Piece, passes, reads, refuses, piece_at, after, past_line, first_state}
 use Rattle.vd_lex.specs.Lexis.{Position, Step, goes, breaks, ends, moved, at_piece, at_end, step_at, Reads, here, further, start, end_token, IsTokenList, BreaksAt, IsBreakOf}
-use Rattle.vd_lex.specs.Scans.{IsPieceRead, IsRefusedBy, position, ReadsTokens, IsLineRead, IsLineBroken, IsLineRefused, IsTextRead}
+use Rattle.vd_lex.specs.Scans.{IsPieceRead, IsRefusedBy, position, ReadsTokens, IsLineRead, IsLineBroken, IsLineRefused, IsTextRead, IsUnended}
 
 module _ (r : Revision) where
   pub reads_on : (a b c : Position) (ts us : List Lexeme) → Reads r a ts b → Reads r b us c → Reads r a (ts ++ us) c
@@ -110,8 +111,20 @@ module _ (r : Revision) where
     pub text_ended : (ts : List Lexeme) (st : State) → st.comment ≡ None → IsTextRead r s ts st [] → IsTokenList r s (ts ++ end_token s ∷ [])
     text_ended ts st none a = record { before = ts; last = position st a.place [] []; read = a.read; ended = ap at_end none; tokens = refl }
 
-    pub text_broken : (ts : List Lexeme) (st : State) (p : Place) → st.comment ≡ Some p → IsTextRead r s ts st [] → BreaksAt r s 102 p
+    text_broken : (ts : List Lexeme) (st : State) (p : Place) → st.comment ≡ Some p → IsTextRead r s ts st [] → BreaksAt r s 102 p
     text_broken ts st p some a = record { before = ts; last = position st a.place [] []; read = a.read; broken = ap at_end some }
+
+    pub text_unended : (ts : List Lexeme) (st : State) (e : Refusal) → IsTextRead r s ts st [] → IsUnended st e → IsBreakOf r s e
+    text_unended ts st (Refused e) a h = subst (λ rule. BreaksAt r s rule e.place) (sym h.0) (text_broken ts st e.place h.1 a)
+    text_unended ts st Memory a h = tt
+
+-- the lines from one on
+pub lines_more : (r : Revision) (s : Selected) (ts : List Lexeme) (st : State) (ls : List Line) (i : ℕ) (l : Line) → i < length ls → l ≡ get_or ls i l
+    → IsTextRead r s ts st (drop i ls) → IsTextRead r s ts st (l ∷ drop (i + 1) ls)
+lines_more r s ts st ls i l h e a = subst (IsTextRead r s ts st) (drop_more ls i l h ∙ ap (λ x. x ∷ drop (i + 1) ls) (sym e)) a
+
+pub lines_all : (r : Revision) (s : Selected) (ts : List Lexeme) (st : State) (ls : List Line) (i : ℕ) → length ls ≤ i → IsTextRead r s ts st (drop i ls) → IsTextRead r s ts st []
+lines_all r s ts st ls i h a = subst (IsTextRead r s ts st) (drop_all i ls h) a
 
 -- ---- the last line
 
@@ -130,3 +143,15 @@ on_ok (Err x) e h = cc
 pub some_from : (bs : List ℕ) → eqb (length bs) 0 ≡ false → 0 < length bs
 some_from [] e = cc
 some_from (b ∷ bs) e = omega arith
+
+-- ---- the end
+
+module _ (r : Revision) (s : Selected) (ts : List Lexeme) (st : State) where
+  pub finished : (p : Place) (result : Result (List Lexeme) Refusal) → p ≡ end_place s.file s.lines → IsTextRead r s ts st []
+      → IfOk result (λ us. (st.comment ≡ None) × (us ≡ ts ++ record { kind = End; text = []; place = p } ∷ [])) → IfOk result (λ us. IsTokenList r s us)
+  finished p (Ok us) e a h = subst (IsTokenList r s) (sym (h.1 ∙ ap (λ q. ts ++ record { kind = End; text = []; place = q } ∷ []) e)) (text_ended r s ts st h.0 a)
+  finished p (Err x) e a h = tt
+
+  pub unfinished : (result : Result (List Lexeme) Refusal) → IsTextRead r s ts st [] → IfErr result (IsUnended st) → IfErr result (IsBreakOf r s)
+  unfinished (Ok us) a h = tt
+  unfinished (Err e) a h = text_unended r s ts st e a h

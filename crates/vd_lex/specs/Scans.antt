@@ -58,3 +58,8 @@ pub record IsTextRead (r : Revision) (s : Selected) (tokens : List Lexeme) (st :
   pub place : Place
   pub same_file : place.file ≡ s.file
   pub read : Reads r (start s) tokens (position st place [] ls)
+
+-- a comment isn't ended that began there
+abbrev pub IsUnended : State → Refusal → Type 0
+IsUnended st (Refused e) = (e.rule ≡ 102) × (st.comment ≡ Some e.place)
+IsUnended st Memory = Unit {0}

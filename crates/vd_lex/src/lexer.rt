@@ -10,7 +10,7 @@ ghost use Rattle.vd_lex.specs.Items.{item_of, FoundFits};
 ghost use Rattle.vd_lex.specs.Pieces as pieces;
 ghost use Rattle.vd_lex.specs.Pieces.{piece_at, checked, first_state, past_line};
 ghost use Rattle.vd_lex.specs.Lexis.{IsTokenList, IsBreakOf, HasOneLexing, HasSomeLexing};
-ghost use Rattle.vd_lex.specs.Scans.{IsPieceRead, IsRefusedBy, IsLineRead, IsLineRefused};
+ghost use Rattle.vd_lex.specs.Scans.{IsPieceRead, IsRefusedBy, IsLineRead, IsLineRefused, IsUnended};
 ghost use Rattle.vd_lex.specs.Items as items;
 
 use crate::items::{Buffers, Found, item_found};
@@ -257,6 +257,26 @@ impl Lexer {
         }
     }
 
+    /// The tokens, with the end at this place behind them, if no comment goes on there.
+    fn finish(self, place: Place) -> Result<Tokens, Refusal>
+        ensures read { IfOk result (λ ts. (self.state.comment ≡ None)
+            × (ts ≡ self.tokens ++ record { kind = End; text = []; place = place } ∷ [])) }
+        ensures broken { IfErr result (IsUnended self.state) }
+    {
+        let Lexer {
+            buffers: _,
+            state,
+            mut tokens,
+        } = self;
+        match state.comment {
+            Some(place) => Err(Refusal::Refused(Refused { place, rule: 102 })),
+            None => match tokens.push(Kind::End, &[], place) {
+                Ok(()) => Ok(tokens),
+                Err(_) => Err(Refusal::Memory),
+            },
+        }
+    }
+
     /// Reads the text of a line.
     fn read_line(
         &mut self,
@@ -306,31 +326,55 @@ fn end_of(text: &Selected) -> Place
     }
 }
 
+/// The tokens of a text of the revision that these tables are of.
+fn lex_with(
+    alloc: Global,
+    words: &ReservedWords,
+    marks: &MarkTable,
+    text: &Selected,
+) -> Result<Tokens, Refusal>
+    requires fits { ColumnsFit text.now }
+    requires same { marks.now.revision ≡ words.now.revision }
+    ensures read { IfOk result (λ ts. IsTokenList words.now.revision text.now ts) }
+    ensures broken { IfErr result (IsBreakOf words.now.revision text.now) }
+{
+    let mut lexer = Lexer::new(alloc);
+    for line in text.lines.as_slice() {
+        lexer.pass_line_end();
+        lexer.read_line(words, marks, text.file, line)?;
+    }
+    lexer.finish(end_of(text))
+}
+
 /// The tokens of a text of some revision.
 fn lex(alloc: Global, revision: Revision, text: &Selected) -> Result<Tokens, Refusal>
     requires { ColumnsFit text.now }
     ensures read { IfOk result (λ ts. IsTokenList revision text.now ts) }
     ensures broken { IfErr result (IsBreakOf revision text.now) }
 {
-    let words = ReservedWords::new(alloc, revision).map_err(|_| Refusal::Memory)?;
-    let marks = MarkTable::new(alloc, revision).map_err(|_| Refusal::Memory)?;
-    let mut lexer = Lexer::new(alloc);
-    for line in text.lines.as_slice() {
-        lexer.pass_line_end();
-        lexer.read_line(&words, &marks, text.file, line)?;
+    match ReservedWords::new(alloc, revision) {
+        Ok(words) => match MarkTable::new(alloc, revision) {
+            Ok(marks) => lex_with(alloc, &words, &marks, text),
+            Err(_) => Err(Refusal::Memory),
+        },
+        Err(_) => Err(Refusal::Memory),
     }
-    let Lexer {
-        buffers: _,
-        state,
-        mut tokens,
-    } = lexer;
-    match state.comment {
-        Some(place) => Err(Refusal::Refused(Refused { place, rule: 102 })),
-        None => {
-            tokens
-                .push(Kind::End, &[], end_of(text))
-                .map_err(|_| Refusal::Memory)?;
-            Ok(tokens)
-        }
-    }
+}
+
+/// The tokens of a 2019 text, with the end of the file behind them.
+pub fn lex19(alloc: Global, text: &Selected) -> Result<Tokens, Refusal>
+    requires { ColumnsFit text.now }
+    ensures read { IfOk result (λ ts. IsTokenList V2019 text.now ts) }
+    ensures broken { IfErr result (IsBreakOf V2019 text.now) }
+{
+    lex(alloc, Revision::V2019, text)
+}
+
+/// The tokens of a 1993 text, with the end of the file behind them.
+pub fn lex93(alloc: Global, text: &Selected) -> Result<Tokens, Refusal>
+    requires { ColumnsFit text.now }
+    ensures read { IfOk result (λ ts. IsTokenList V1993 text.now ts) }
+    ensures broken { IfErr result (IsBreakOf V1993 text.now) }
+{
+    lex(alloc, Revision::V1993, text)
 }

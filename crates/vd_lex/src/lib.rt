@@ -6,4 +6,5 @@ pub mod lexer;
 pub mod states;
 mod tables;
 
+pub use lexer::{lex19, lex93};
 pub use vd_tokens::{Kind, Token, Tokens, spell, spell_into};
