@@ -2,9 +2,11 @@
 #![tactic(auto)]
 
 pub mod items;
+pub mod laws;
 pub mod lexer;
 pub mod states;
 mod tables;
 
+pub use laws::{one_lexing, some_lexing};
 pub use lexer::{lex19, lex93};
 pub use vd_tokens::{Kind, Token, Tokens, spell, spell_into};
