@@ -1,4 +1,6 @@
+pub mod KindLemmas
 pub mod LexingLaws
 pub mod ReadLemmas
 pub mod SizeLemmas
 pub mod TableLemmas
+pub mod TextLemmas
