@@ -1,5 +1,6 @@
 pub mod KindLemmas
 pub mod LexingLaws
+pub mod PossibleLemmas
 pub mod ReadLemmas
 pub mod SizeLemmas
 pub mod TableLemmas

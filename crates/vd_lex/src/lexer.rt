@@ -4,6 +4,7 @@ ghost use Rattle.std.specs.Prelude.{◌≡◌, ◌++◌, ◌∷◌, ◌+◌, ◌
 ghost use Rattle.std.specs.List.{AllByRecursion};
 ghost use Rattle.vd_trees.specs.declared.revision.Revision.TheVariants.{V2019, V1993};
 ghost use Rattle.vd_tokens.specs.Lexemes.{Lexeme};
+ghost use Rattle.vd_tokens.specs.Spellings.{IsPossible, EndsOnce};
 ghost use Rattle.vd_tokens.specs.declared.kinds.Kind.TheVariants.{End};
 ghost use Rattle.vd_directives.specs.Lines.{ColumnsFit, end_place};
 ghost use Rattle.vd_lex.specs.Items.{item_of, FoundFits};
@@ -350,6 +351,8 @@ fn lex_with(
 fn lex(alloc: Global, revision: Revision, text: &Selected) -> Result<Tokens, Refusal>
     requires { ColumnsFit text.now }
     ensures read { IfOk result (λ ts. IsTokenList revision text.now ts) }
+    ensures possible { IfOk result (λ ts. AllByRecursion (IsPossible revision) ts) }
+    ensures ends { IfOk result (λ ts. EndsOnce ts) }
     ensures broken { IfErr result (IsBreakOf revision text.now) }
 {
     match ReservedWords::new(alloc, revision) {
@@ -365,6 +368,8 @@ fn lex(alloc: Global, revision: Revision, text: &Selected) -> Result<Tokens, Ref
 pub fn lex19(alloc: Global, text: &Selected) -> Result<Tokens, Refusal>
     requires { ColumnsFit text.now }
     ensures read { IfOk result (λ ts. IsTokenList V2019 text.now ts) }
+    ensures possible { IfOk result (λ ts. AllByRecursion (IsPossible V2019) ts) }
+    ensures ends { IfOk result (λ ts. EndsOnce ts) }
     ensures broken { IfErr result (IsBreakOf V2019 text.now) }
 {
     lex(alloc, Revision::V2019, text)
@@ -374,6 +379,8 @@ pub fn lex19(alloc: Global, text: &Selected) -> Result<Tokens, Refusal>
 pub fn lex93(alloc: Global, text: &Selected) -> Result<Tokens, Refusal>
     requires { ColumnsFit text.now }
     ensures read { IfOk result (λ ts. IsTokenList V1993 text.now ts) }
+    ensures possible { IfOk result (λ ts. AllByRecursion (IsPossible V1993) ts) }
+    ensures ends { IfOk result (λ ts. EndsOnce ts) }
     ensures broken { IfErr result (IsBreakOf V1993 text.now) }
 {
     lex(alloc, Revision::V1993, text)
