@@ -41,7 +41,7 @@ more_bytes t b c cs (Goes next) = refl
 more_bytes t b c cs MayEnd = refl
 more_bytes t b c cs Doubled = refl
 
-marks_end-role : (t : Bool) (s : Before) (bs : List ℕ) → 0 < length bs → marks_end t s bs ≡ by_role t bs (role_of t s bs)
+pub marks_end-role : (t : Bool) (s : Before) (bs : List ℕ) → 0 < length bs → marks_end t s bs ≡ by_role t bs (role_of t s bs)
 marks_end-role t s [] h = absurd (omega arith)
 marks_end-role t s (b ∷ []) h = one_byte t b (role_of t s (b ∷ []))
 marks_end-role t s (b ∷ c ∷ cs) h = more_bytes t b c cs (role_of t s (b ∷ c ∷ cs))

@@ -1,0 +1,4 @@
+pub mod Items
+pub mod Lexis
+pub mod Pieces
+pub mod Scans
