@@ -144,7 +144,12 @@ impl Tray for FileTray {
         let answer = match to {
             Channel::Design => write_file(&self.rt, &mut self.design, DESIGN_FILE, piece),
             Channel::Map => write_file(&self.rt, &mut self.map, MAP_FILE, piece),
-            Channel::Console => write_console(&self.rt, self.has_console, &mut self.console_begun, piece),
+            Channel::Console => write_console(
+                &self.rt,
+                self.has_console,
+                &mut self.console_begun,
+                piece,
+            ),
         };
         if answer.is_err() {
             self.write_faults = self.write_faults.saturating_add(1);
