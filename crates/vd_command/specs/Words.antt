@@ -1,18 +1,18 @@
--- The words that are taken: `--do convert FILE`, where FILE is a word that doesn't begin with `-`, or `-` alone.
-use Rattle.std.specs.Prelude.{ℕ, Bool, true, not, ◌&&◌, ◌==◌, List, [], ◌∷◌, codes, map, string_bytes, Option, Some, None, bytes_eq, if◌then◌else◌, String}
-use Rattle.std.specs.declared.alloc.Global.{Global}
+-- The words that are taken: those of `convert` with exactly one FILE. The program has no other mode yet.
+use Rattle.std.specs.Prelude.{ℕ, List, [], ◌∷◌, Option, Some, None, option_and_then}
+use Rattle.vd_words.specs.declared.command.Mode.{Mode}
+use Rattle.vd_words.specs.declared.command.Mode.TheVariants.{Convert}
+use Rattle.vd_words.specs.Commands.{Meaning, meaning_of}
+pub use Rattle.vd_words.specs.Words.{texts_of}
 
--- 45 is the code of `-`
-abbrev pub is_file_word : List ℕ → Bool
-is_file_word [] = true
-is_file_word (b ∷ []) = true
-is_file_word (b ∷ c ∷ bs) = not (b == 45)
+abbrev pub file_in : Mode → List (List ℕ) → Option (List ℕ)
+file_in Convert (file ∷ []) = Some file
+file_in _ _ = None
+
+-- the FILE of a command that the program has
+abbrev pub file_of_meaning : Meaning → Option (List ℕ)
+file_of_meaning m = file_in m.mode m.files
 
 -- the FILE of some words, where they are taken
-abbrev pub file_of : List (List ℕ) → Option (List ℕ)
-file_of (mode ∷ convert ∷ file ∷ []) =
-    if bytes_eq mode (codes "--do") && (bytes_eq convert (codes "convert") && is_file_word file) then Some file else None
-file_of _ = None
-
-abbrev pub texts_of : List (String Global) → List (List ℕ)
-texts_of words = map string_bytes words
+unfoldable pub file_of : List (List ℕ) → Option (List ℕ)
+file_of words = option_and_then file_of_meaning (meaning_of words)

@@ -40,7 +40,7 @@ pub fn vdown<T: Tray>(alloc: Global, words: &Vec<String>, tray: &mut T) -> u8
     // Whether the words are taken needs no file.
     ensures words { result ≡ 2 → (file_of (texts_of words.now.items) ≡ None)
         × GotAll T.written tray.old tray.new refused_words }
-    ensures not_taken { file_of (texts_of words.now.items) ≡ None → (result ≡ 2) ⊎ (result ≡ 4) }
+    ensures not_taken { file_of (texts_of words.now.items) ≡ None → (result ≡ 2) ⊎ ((result ≡ 4) ⊎ (result ≡ 5)) }
 
     // A fault in reading is that of the file that the words name, and Console names it.
     ensures read_fault { result ≡ 3 → (file : List ℕ) × (file_of (texts_of words.now.items) ≡ Some file)
@@ -74,10 +74,12 @@ pub fn vdown<T: Tray>(alloc: Global, words: &Vec<String>, tray: &mut T) -> u8
     ensures statuses { result < 7 }
     ensures same_files { T.files tray.new ≡ T.files tray.old }
 {
-    let Some(file) = file_word(words) else {
-        return write_due(tray, 2, &[], &[], REFUSED_WORDS);
+    let file = match file_word(alloc, words) {
+        Ok(Some(file)) => file,
+        Ok(None) => return write_due(tray, 2, &[], &[], REFUSED_WORDS),
+        Err(_) => return MEMORY,
     };
-    match ready_for(alloc, tray, file) {
+    match ready_for(alloc, tray, file.as_str()) {
         Ok(ready) => write_due(
             tray,
             ready.status,

@@ -1,35 +1,38 @@
 //! The words that are taken.
 
-ghost use Rattle.std.specs.Prelude.{◌≡◌, ◌∷◌, [], option_map};
-ghost use Rattle.vd_command.specs.Words.{is_file_word, file_of, texts_of};
+ghost use Rattle.std.specs.Prelude.{◌≡◌, IfOk, option_map, string_bytes};
+ghost use Rattle.vd_words.specs.Commands.{meaning_in};
+ghost use Rattle.vd_command.specs.Words.{file_of, file_of_meaning, texts_of};
 
-/// The FILE of `--do convert FILE`, and nothing for other words.
-pub fn file_word(words: &Vec<String>) -> Option<&str>
-    ensures { option_map (λ word. word.now) result ≡ file_of (texts_of words.now.items) }
+use std::alloc::{AllocError, Global};
+use vd_words::{Command, Mode, WordsEnd, read_words};
+
+/// The FILE of a conversion, and nothing for words that aren't taken.
+pub fn file_word(alloc: Global, words: &Vec<String>) -> Result<Option<String>, AllocError>
+    ensures { IfOk result (λ file. option_map string_bytes file ≡ file_of (texts_of words.now.items)) }
 {
-    match words.as_slice() {
-        [mode, convert, file] => taken_file(mode.as_str(), convert.as_str(), file.as_str()),
+    match read_words(alloc, words) {
+        Ok(command) => copied(alloc, named_file(&command)),
+        Err(WordsEnd::NotTaken) => Ok(None),
+        Err(WordsEnd::Memory) => Err(AllocError),
+    }
+}
+
+// The FILE of a command that the program has.
+fn named_file(command: &Command) -> Option<&str>
+    ensures { option_map (λ file. file.now) result ≡ file_of_meaning (meaning_in command.now) }
+{
+    match (command.mode, command.files.as_slice()) {
+        (Mode::Convert, [file]) => Some(file.as_str()),
         _ => None,
     }
 }
 
-// The last of three words, where the three are taken.
-fn taken_file<'a>(mode: &str, convert: &str, file: &'a str) -> Option<&'a str>
-    ensures { option_map (λ word. word.now) result ≡ file_of (mode.now ∷ convert.now ∷ file.now ∷ []) }
+fn copied(alloc: Global, file: Option<&str>) -> Result<Option<String>, AllocError>
+    ensures { IfOk result (λ copy. option_map string_bytes copy ≡ option_map (λ word. word.now) file.entry) }
 {
-    if mode == "--do" && convert == "convert" && is_file_word(file) {
-        Some(file)
-    } else {
-        None
-    }
-}
-
-// Whether a word is a FILE: `-` alone, or one that doesn't begin with it.
-fn is_file_word(word: &str) -> bool
-    ensures { result ≡ is_file_word word.now }
-{
-    match word.as_bytes() {
-        [first, _, ..] => *first != b'-',
-        _ => true,
+    match file {
+        Some(file) => Ok(Some(String::from_str(alloc, file)?)),
+        None => Ok(None),
     }
 }

@@ -1,7 +1,7 @@
 //! Words that aren't taken, and broken rules.
 
 use crate::calls::{NO_FAULT, called, converted, line};
-use crate::conversions::SOURCE;
+use crate::conversions::{DUE, SOURCE};
 use std::alloc::{AllocError, Global};
 use std::test::Fail;
 
@@ -68,6 +68,10 @@ fn words_that_are_not_taken(rt: HostRuntime) -> Result<(), Fail> {
         &["--do"],
         &["--do", "convert"],
         &["--do", "check", "e.vhd"],
+        &["--do", "run19", "e.vhd"],
+        &["--do", "run19", "--top", "e", "e.vhd"],
+        &["--do", "convert", "--top", "e", "e.vhd"],
+        &["--do", "convert", "--cycles", "05", "e.vhd"],
         &["--do", "convert", "-e.vhd"],
         &["--do", "convert", "e.vhd", "e.vhd"],
         &["--Do", "convert", "e.vhd"],
@@ -81,6 +85,27 @@ fn words_that_are_not_taken(rt: HostRuntime) -> Result<(), Fail> {
             &NO_FAULT,
             &line(2, b"refused words\n"),
         )?;
+    }
+    Ok(())
+}
+
+#[test]
+fn words_in_their_other_form(rt: HostRuntime) -> Result<(), Fail> {
+    for words in [
+        ["--do=convert", "e.vhd"].as_slice(),
+        &["e.vhd", "--do", "convert"],
+        &[
+            "--cycles",
+            "5",
+            "--units=1",
+            "--tool-type",
+            "FORMAL",
+            "--do=convert",
+            "--",
+            "e.vhd",
+        ],
+    ] {
+        called(&rt, rt.alloc(), words, SOURCE, &NO_FAULT, &DUE)?;
     }
     Ok(())
 }

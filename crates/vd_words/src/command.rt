@@ -1,6 +1,7 @@
 //! What words mean.
 
 ghost use Rattle.std.specs.Prelude.{◌≡◌};
+ghost use Rattle.vd_words.specs.Words.{texts_of};
 ghost use Rattle.vd_words.specs.declared.command.WordsEnd.TheVariants.{Memory};
 
 use std::alloc::AllocError;
@@ -21,33 +22,34 @@ pub enum Mode {
     Run93,
 }
 
-/// Texts in their order, which contracts see as a list of lists.
+/// The names of files in their order, which contracts see as a list of lists of bytes.
 #[derive(Debug, Drop)]
-pub struct Texts {
-    items: Vec<Text>,
+pub struct FileNames {
+    names: Vec<String>,
 }
 
-impl Model for Texts {
+impl Model for FileNames {
     ghost use Rattle.std.specs.Prelude.{ℕ, List};
+    ghost use Rattle.vd_words.specs.Words.{texts_of};
 
     ghost Value = { List (List ℕ) };
 
-    ghost view = { λ a. a.items.items };
+    ghost view = { λ a. texts_of a.names.items };
 }
 
-impl Texts {
-    /// These texts, as they are.
-    pub fn of(items: Vec<Text>) -> Texts
-        ensures { result ≡ items.items }
+impl FileNames {
+    /// These names, as they are.
+    pub fn of(names: Vec<String>) -> FileNames
+        ensures { result ≡ texts_of names.items }
     {
-        Texts { items }
+        FileNames { names }
     }
 
-    /// The texts.
-    pub fn as_slice(&self) -> &[Text]
-        ensures { result.now ≡ self.now }
+    /// The names.
+    pub fn as_slice(&self) -> &[String]
+        ensures { texts_of result.now ≡ self.now }
     {
-        self.items.as_slice()
+        self.names.as_slice()
     }
 }
 
@@ -60,7 +62,7 @@ pub struct Command {
     pub cycles: u32,
     pub units: u32,
     pub tool_type: Text,
-    pub files: Texts,
+    pub files: FileNames,
 }
 
 /// Why there is no command.

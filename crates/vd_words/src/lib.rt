@@ -9,5 +9,5 @@ pub mod reading;
 #[cfg(test)]
 mod tests;
 
-pub use command::{Command, Mode, Texts, WordsEnd};
+pub use command::{Command, FileNames, Mode, WordsEnd};
 pub use reading::read_words;

@@ -7,7 +7,7 @@ ghost use Rattle.vd_words.specs.Given.{values_given, file_id};
 ghost use Rattle.vd_words.specs.Plans.{given_values, meaning_of_plan};
 ghost use Rattle.vd_words.specs.Commands.{Meaning, meaning_by, meaning_in, one_or, mode_named, mode_in, number_in, tool_type_named, tool_type_in, top_in};
 
-use crate::command::{Command, Mode, Texts};
+use crate::command::{Command, FileNames, Mode};
 use crate::given::FILE;
 use crate::numbers::number_named;
 use clap::ArgMatches;
@@ -52,7 +52,7 @@ pub(crate) fn command_of(
 {
     let top = text_of(alloc, plan.top)?;
     let tool_type = text_of(alloc, plan.tool_type)?;
-    let files = texts_of(alloc, values(matches, FILE))?;
+    let files = names_of(alloc, values(matches, FILE))?;
     Ok(Command {
         mode: plan.mode,
         top,
@@ -69,23 +69,23 @@ fn text_of(alloc: Global, text: &str) -> Result<Text, AllocError>
     Text::from_slice(alloc, text.as_bytes())
 }
 
-fn texts_of(alloc: Global, words: Option<&[&str]>) -> Result<Texts, AllocError>
-    ensures { IfOk result (λ texts. texts ≡ given_values words.entry) }
+fn names_of(alloc: Global, words: Option<&[&str]>) -> Result<FileNames, AllocError>
+    ensures { IfOk result (λ names. names ≡ given_values words.entry) }
 {
     match words {
         Some(words) => copied(alloc, words),
-        None => Ok(Texts::of(Vec::new(alloc))),
+        None => Ok(FileNames::of(Vec::new(alloc))),
     }
 }
 
-fn copied(alloc: Global, words: &[&str]) -> Result<Texts, AllocError>
-    ensures { IfOk result (λ texts. texts ≡ map (λ word. word.now) words.now) }
+fn copied(alloc: Global, words: &[&str]) -> Result<FileNames, AllocError>
+    ensures { IfOk result (λ names. names ≡ map (λ word. word.now) words.now) }
 {
-    let mut texts = Vec::with_capacity(alloc, words.len())?;
+    let mut names = Vec::with_capacity(alloc, words.len())?;
     for word in words {
-        texts.push(text_of(alloc, word)?)?;
+        names.push(String::from_str(alloc, word)?)?;
     }
-    Ok(Texts::of(texts))
+    Ok(FileNames::of(names))
 }
 
 fn values<'m, 'a>(matches: &'m ArgMatches<'a>, id: &str) -> Option<&'m [&'a str]>

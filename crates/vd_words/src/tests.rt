@@ -287,7 +287,7 @@ fn means(rt: &impl Abort, command: &Command, taken: &Taken<'_>) {
     let files = command.files.as_slice();
     assert_eq!(rt; files.len(), taken.files.len());
     for (file, wanted) in files.iter().zip(taken.files) {
-        assert_eq!(rt; file.as_slice(), wanted.as_bytes());
+        assert_eq!(rt; file.as_str(), *wanted);
     }
 }
 
