@@ -3,3 +3,4 @@ pub mod EqualRuns
 pub mod HeadlineLemmas
 pub mod OneOutcome
 pub mod ReadyLemmas
+pub mod SomeOutcome

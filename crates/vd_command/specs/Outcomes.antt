@@ -102,6 +102,10 @@ IsWordsOutcome (Some file) files due = IsFileOutcome file (content_of files file
 abbrev pub IsOutcome : List (List ℕ) → List (List ℕ × List ℕ) → Due → Type 0
 IsOutcome words files due = IsWordsOutcome (file_of words) files due
 
--- words and files have one outcome
+-- words and files have at most one outcome
 abbrev pub HasOneOutcome : Type 0
 HasOneOutcome = (words : List (List ℕ)) (files : List (List ℕ × List ℕ)) (a b : Due) → IsOutcome words files a → IsOutcome words files b → a ≡ b
+
+-- and they have one
+abbrev pub HasSomeOutcome : Type 0
+HasSomeOutcome = (words : List (List ℕ)) (files : List (List ℕ × List ℕ)) → (due : Due) × IsOutcome words files due

@@ -4,7 +4,7 @@ ghost use Rattle.std.specs.Prelude.{◌≡◌, ◌≢◌, ◌<◌, ◌≤◌, �
 ghost use Rattle.vd_bytes.specs.declared.channels.Channel.{Channel};
 ghost use Rattle.vd_bytes.specs.Trays.{Rose, SameCounts};
 ghost use Rattle.vd_command.specs.Words.{file_of, texts_of};
-ghost use Rattle.vd_command.specs.Outcomes.{Due, refused_words, read_fault, HasOneOutcome, IsFileOutcome, IsOutcome};
+ghost use Rattle.vd_command.specs.Outcomes.{Due, refused_words, read_fault, HasOneOutcome, HasSomeOutcome, IsFileOutcome, IsOutcome};
 ghost use Rattle.vd_command.specs.Endings.{GotAll, GotFronts, GotNothing, FilesUntouched, BeginsInOrder, IsCompleted, IsOutcomeOf, IsDueOrFault, IsReady, due_in, due_with};
 ghost use Rattle.vd_command.specs.Headline.{ConvertsFile, HasNoFault, NamesAcceptable};
 
@@ -91,10 +91,15 @@ pub fn vdown<T: Tray>(alloc: Global, words: &Vec<String>, tray: &mut T) -> u8
     }
 }
 
-/// The outcome of words and files is one, so where a tray tells its files, the statuses 0, 1, 2 and 6, and what is written
+/// Words and files have at most one outcome, so where a tray tells its files, the statuses 0, 1, 2 and 6, and what is written
 /// with them, are determined by words and files, faults and want of memory aside.
 pub fn one_outcome()
     ensures { HasOneOutcome }
+{}
+
+/// Words and files have an outcome, whatever they are.
+pub fn some_outcome()
+    ensures { HasSomeOutcome }
 {}
 
 // Writes what is due, and answers its status, or that writing failed.

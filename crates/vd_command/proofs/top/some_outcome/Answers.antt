@@ -1,0 +1,5 @@
+use Rattle.vd_command.proofs.SomeOutcome.{some_outcome}
+use Rattle.vd_command.proofs.top.some_outcome.Goals as goal
+
+pub returns : goal.returns
+returns c = some_outcome
