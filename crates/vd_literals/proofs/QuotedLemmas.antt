@@ -20,7 +20,7 @@ by_role t bs (Goes next) = shifted 1 (marks_end t next (drop 1 bs))
 by_role t bs MayEnd = first_some (shifted 2 (marks_end t Character (drop 2 bs))) (Some 1)
 by_role t bs Doubled = shifted 2 (marks_end t Character (drop 2 bs))
 
-one_byte : (t : Bool) (b : ℕ) (r : Role) → (elim r as (λ _. Option ℕ) [ | Stops ↦ None | Ends ↦ Some 1 | Goes next ↦ None | MayEnd ↦ Some 1 | Doubled ↦ None ]) ≡ by_role t (b ∷ []) r
+one_byte : (t : Bool) (b : ℕ) (r : Role) → (elim r as (λ _. Option ℕ) [ Stops ↦ None | Ends ↦ Some 1 | Goes next ↦ None | MayEnd ↦ Some 1 | Doubled ↦ None ]) ≡ by_role t (b ∷ []) r
 one_byte t b Stops = refl
 one_byte t b Ends = refl
 one_byte t b (Goes next) = refl
@@ -41,7 +41,7 @@ more_bytes t b c cs (Goes next) = refl
 more_bytes t b c cs MayEnd = refl
 more_bytes t b c cs Doubled = refl
 
-marks_end-role : (t : Bool) (s : Before) (bs : List ℕ) → 0 < length bs → marks_end t s bs ≡ by_role t bs (role_of t s bs)
+pub marks_end-role : (t : Bool) (s : Before) (bs : List ℕ) → 0 < length bs → marks_end t s bs ≡ by_role t bs (role_of t s bs)
 marks_end-role t s [] h = absurd (omega arith)
 marks_end-role t s (b ∷ []) h = one_byte t b (role_of t s (b ∷ []))
 marks_end-role t s (b ∷ c ∷ cs) h = more_bytes t b c cs (role_of t s (b ∷ c ∷ cs))

@@ -105,3 +105,8 @@ abbrev pub ExponentFits : ℕ → Exponent → Type 0
 ExponentFits n Absent = Unit {0}
 ExponentFits n (Positive start end) = (start ≤ end) × (end ≤ n)
 ExponentFits n Negative = Unit {0}
+
+abbrev pub NumberFits : ℕ → NumberItem → Type 0
+NumberFits size (item.Whole n value) = (0 < n) × (n ≤ size)
+NumberFits size item.OutOfRange = Unit {0}
+NumberFits size item.Real = Unit {0}

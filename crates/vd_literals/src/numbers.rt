@@ -1,12 +1,11 @@
 //! Numbers.
 
-ghost use Rattle.std.specs.Prelude.{◌≡◌, ◌+◌, ◌*◌, ◌<◌, ◌≤◌, ◌^◌, true, length, drop, Some, None, slice_index, take, slice_range, if◌then◌else◌};
+ghost use Rattle.std.specs.Prelude.{◌≡◌, ◌+◌, ◌*◌, ◌<◌, ◌≤◌, ◌^◌, true, length, drop, Some, None, slice_index, take, slice_range, ℕ, if◌then◌else◌};
 ghost use Rattle.vd_literals.specs.Numbers as numbers;
-ghost use Rattle.vd_literals.specs.Numbers.{FormFits, ExponentFits, base_of, raised, is_base};
+ghost use Rattle.vd_literals.specs.Numbers.{FormFits, ExponentFits, NumberFits, base_of, raised, is_base};
 ghost use Rattle.vd_literals.specs.Values.{value_of, bounded};
 ghost use Rattle.vd_tokens.specs.Spellings as spellings;
 ghost use Rattle.vd_tokens.specs.Spellings.{greatest_integer};
-
 
 use crate::runs::run_length;
 use crate::values::{are_below, scaled, value};
@@ -165,13 +164,7 @@ fn base_value(digits: &[u8]) -> Option<u32>
         return Some(10);
     }
     match value(10, digits) {
-        Some(n) => {
-            if 2 <= n && n <= 16 {
-                Some(n)
-            } else {
-                None
-            }
-        }
+        Some(n) => { if 2 <= n && n <= 16 { Some(n) } else { None } }
         None => None,
     }
 }
@@ -184,13 +177,7 @@ fn power_value(n: u32, base: u32, exponent: &[u8]) -> Option<u32>
 {
     match value(10, exponent) {
         Some(times) => scaled(n, base, times),
-        None => {
-            if n == 0 {
-                Some(0)
-            } else {
-                None
-            }
-        }
+        None => { if n == 0 { Some(0) } else { None } }
     }
 }
 
@@ -220,7 +207,8 @@ fn number_value(base: &[u8], digits: &[u8], exponent: &[u8]) -> Option<u32>
 
 /// A number of so many bytes, by its value.
 fn item_of(length: usize, value: Option<u32>) -> NumberItem
-    ensures { result ≡ numbers.item_of length value }
+    ensures item { result ≡ numbers.item_of length value }
+    ensures fits { (size : ℕ) → 0 < length → length ≤ size → NumberFits size result }
 {
     match value {
         Some(value) => NumberItem::Whole { length, value },
@@ -232,7 +220,8 @@ fn item_of(length: usize, value: Option<u32>) -> NumberItem
 pub fn number_at(rest: &[u8]) -> NumberItem
     requires some { 0 < length rest.now }
     requires digit { spellings.is_digit (slice_index rest.now 0) ≡ true }
-    ensures { result ≡ numbers.number_at rest.now }
+    ensures item { result ≡ numbers.number_at rest.now }
+    ensures fits { NumberFits (length rest.now) result }
 {
     match number_form(rest) {
         NumberForm::Real => NumberItem::Real,

@@ -1,0 +1,10 @@
+use Rattle.std.proofs.Common.{position, sym, ap, ◌∙◌}
+use Rattle.std.specs.Str.{bytes_eq}
+use Rattle.vd_lex.proofs.TableLemmas.{position-map}
+use Rattle.vd_lex.proofs.tables.MarkTable.number_of.Goals as goal
+
+pub returns-in-Some : goal.returns-in-Some
+returns-in-Some c = c.in-Some.ensures.index ∙ (sym (position-map (λ w. w.now) (bytes_eq c.args.mark.now) c.args.self.now.set.keys) ∙ ap (position (bytes_eq c.args.mark.now)) c.args.self.now.are_the_marks)
+
+pub returns-in-None : goal.returns-in-None
+returns-in-None c = c.in-None.ensures.index ∙ (sym (position-map (λ w. w.now) (bytes_eq c.args.mark.now) c.args.self.now.set.keys) ∙ ap (position (bytes_eq c.args.mark.now)) c.args.self.now.are_the_marks)

@@ -1,0 +1,5 @@
+pub mod Items
+pub mod Lexis
+pub mod Pieces
+pub mod Scans
+pub mod Spelled
