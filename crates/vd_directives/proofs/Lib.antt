@@ -1,1 +1,7 @@
+mod ConditionLemmas
+mod LevelLemmas
 pub mod LineLemmas
+mod PieceLemmas
+mod RunLemmas
+mod SelectLemmas
+mod StackLemmas

@@ -119,7 +119,7 @@ first_line-last (b ∷ bs) h none =
 -- ---- the columns
 
 -- no line is longer than this
-abbrev AreShort : ℕ → List (List ℕ) → Type 0
+abbrev pub AreShort : ℕ → List (List ℕ) → Type 0
 AreShort n ls = AllByRecursion (λ (l : List ℕ). length l ≤ n) ls
 
 short_more : (n : ℕ) (ls : List (List ℕ)) → AreShort n ls → AreShort (suc n) ls
@@ -130,7 +130,7 @@ short_first : (n b : ℕ) (ls : List (List ℕ)) → AreShort n ls → AreShort 
 short_first n b [] h = (omega arith, tt)
 short_first n b (l ∷ ls) h = (omega (arith, h.0), short_more n ls h.1)
 
-short_lines : (bs : List ℕ) → AreShort (length bs) (lines_of bs)
+pub short_lines : (bs : List ℕ) → AreShort (length bs) (lines_of bs)
 short_lines [] = tt
 short_lines (b ∷ bs) = by (eqb b 10) (eqb b 13 && starts_with_line_feed bs) (short_lines bs)
   where

@@ -1,1 +1,10 @@
+pub mod Conditions
+pub mod Directives
+pub mod Groups
+pub mod Kept
+pub mod Levels
 pub mod Lines
+pub mod Pieces
+pub mod Selection
+pub mod Stacks
+pub mod Steps

@@ -54,16 +54,16 @@ is_name-lowered : (bs : List ℕ) → is_name (lowered bs) ≡ is_name bs
 is_name-lowered [] = refl
 is_name-lowered (b ∷ bs) = rw (is_letter-lower b, is_name_rest-lowered bs) refl
 
-lowered-lowered : (bs : List ℕ) → lowered (lowered bs) ≡ lowered bs
+pub lowered-lowered : (bs : List ℕ) → lowered (lowered bs) ≡ lowered bs
 lowered-lowered [] = refl
 lowered-lowered (b ∷ bs) = rw (lower-lower b, lowered-lowered bs) refl
 
 -- ---- names
 
-is_part-letters : (b : ℕ) → is_part true b ≡ is_letter_or_digit b
+pub is_part-letters : (b : ℕ) → is_part true b ≡ is_letter_or_digit b
 is_part-letters b = grind (arith, nat_tests)
 
-starts-part : (bs : List ℕ) → starts_with_part true bs ≡ starts_with_letter_or_digit bs
+pub starts-part : (bs : List ℕ) → starts_with_part true bs ≡ starts_with_letter_or_digit bs
 starts-part [] = refl
 starts-part (b ∷ bs) = is_part-letters b
 

@@ -1,7 +1,9 @@
 pub mod KindLemmas
 pub mod LexingLaws
+pub mod MarkLemmas
 pub mod PossibleLemmas
 pub mod ReadLemmas
 pub mod SizeLemmas
+pub mod SpellingLemmas
 pub mod TableLemmas
 pub mod TextLemmas

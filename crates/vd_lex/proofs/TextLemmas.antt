@@ -157,7 +157,7 @@ all_undoubled p (b ∷ c ∷ cs) h =
     by (eqb b 34) (all_undoubled p cs (and_parts (p c) (list_all p cs) k.1).1) (all_undoubled p (c ∷ cs) k.1) k.0
   where
     by : (t : Bool) → list_all p (undoubled cs) ≡ true → list_all p (undoubled (c ∷ cs)) ≡ true → p b ≡ true
-        → list_all p (elim t as (λ _. List ℕ) [ | true ↦ b ∷ undoubled cs | false ↦ b ∷ undoubled (c ∷ cs) ]) ≡ true
+        → list_all p (elim t as (λ _. List ℕ) [ true ↦ b ∷ undoubled cs | false ↦ b ∷ undoubled (c ∷ cs) ]) ≡ true
     by true two one g = and_from (p b) _ g two
     by false two one g = and_from (p b) _ g one
 
@@ -169,7 +169,7 @@ BodyFine text bits.Unended = Unit {0}
 BodyFine text (bits.Whole sign width start end) = list_all is_graphic (slice_range text start end) ≡ true
 
 with_fine : (text : List ℕ) (sign : Sign) (width start : ℕ) (o p : Option ℕ) → EndFine (drop start text) o
-    → BodyFine text (elim o as (λ _. BitsForm) [ | Some n ↦ bits.Whole sign width start (start + n - 1) | None ↦ elim p as (λ _. BitsForm) [ | Some n ↦ bits.Absent | None ↦ bits.Unended ] ])
+    → BodyFine text (elim o as (λ _. BitsForm) [ Some n ↦ bits.Whole sign width start (start + n - 1) | None ↦ elim p as (λ _. BitsForm) [ Some n ↦ bits.Absent | None ↦ bits.Unended ] ])
 with_fine text sign width start None None h = tt
 with_fine text sign width start None (Some m) h = tt
 with_fine text sign width start (Some n) p h = let e : start + n - 1 - start ≡ n - 1 = omega (arith, h.0) in ap (λ k. list_all is_graphic (take k (drop start text))) e ∙ h.1

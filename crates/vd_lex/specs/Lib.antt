@@ -2,3 +2,4 @@ pub mod Items
 pub mod Lexis
 pub mod Pieces
 pub mod Scans
+pub mod Spelled

@@ -90,7 +90,7 @@ after k = record { last = Some k; near = true; comment = None }
 
 -- a line's end is spacing, but in a comment
 abbrev pub past_line : State → State
-past_line st = elim st.comment [ | Some p ↦ st | None ↦ without_near st ]
+past_line st = elim st.comment [ Some p ↦ st | None ↦ without_near st ]
 
 abbrev pub first_state : State
 first_state = record { last = None; near = false; comment = None }

@@ -100,11 +100,7 @@ fn lower_into(buffer: &mut Vec<u8>, text: &[u8]) -> Result<(), AllocError>
 }
 
 /// The name or reserved word of so many bytes.
-fn name_found(
-    words: &ReservedWords,
-    buffer: &mut Vec<u8>,
-    text: &[u8],
-) -> Result<Found, AllocError>
+fn name_found(words: &ReservedWords, buffer: &mut Vec<u8>, text: &[u8]) -> Result<Found, AllocError>
     requires { 0 < length text.now }
     ensures item { IfOk result (λ f. item_of buffer.new.items f ≡ items.name_item (length text.now) text.now
         (identifiers.place_among (reserved_words words.now.revision) (identifiers.lowered text.now))) }
@@ -133,11 +129,7 @@ fn name_found(
 }
 
 /// The name or reserved word that a letter begins.
-fn word_found(
-    words: &ReservedWords,
-    buffer: &mut Vec<u8>,
-    rest: &[u8],
-) -> Result<Found, AllocError>
+fn word_found(words: &ReservedWords, buffer: &mut Vec<u8>, rest: &[u8]) -> Result<Found, AllocError>
     requires { 0 < length rest.now }
     ensures item { IfOk result (λ f. item_of buffer.new.items f
         ≡ items.word_item words.now.revision (1 + runs.more_length true (drop 1 rest.now)) rest.now) }
@@ -228,7 +220,15 @@ fn letter_found(
             width,
             start,
             end,
-        } => bits_found(words.revision, buffers, sign, width, None, &rest[start..end], end + 1),
+        } => bits_found(
+            words.revision,
+            buffers,
+            sign,
+            width,
+            None,
+            &rest[start..end],
+            end + 1,
+        ),
     }
 }
 
@@ -264,11 +264,7 @@ fn sized_found(buffers: &mut Buffers, rest: &[u8]) -> Result<Found, AllocError>
 }
 
 /// The number, or the bits with a length, that a digit begins.
-fn digit_found(
-    revision: Revision,
-    buffers: &mut Buffers,
-    rest: &[u8],
-) -> Result<Found, AllocError>
+fn digit_found(revision: Revision, buffers: &mut Buffers, rest: &[u8]) -> Result<Found, AllocError>
     requires some { 0 < length rest.now }
     requires digit { spellings.is_digit (slice_index rest.now 0) ≡ true }
     ensures item { IfOk result (λ f. item_of buffers.new.text.items f ≡ items.digit_item revision rest.now) }

@@ -140,8 +140,9 @@ impl Lexer {
         ensures broken { IfErr result (IsRefusedBy (checked self.old.state
             (items.item_at words.now.revision self.old.state.last rest.now)) place) }
     {
-        let found = item_found(words, marks, &mut self.buffers, self.state.last, rest)
-            .map_err(|_| Refusal::Memory)?;
+        let found = item_found(words, marks, &mut self.buffers, self.state.last, rest).map_err(
+            |_| Refusal::Memory,
+        )?;
         match found {
             Found::Taken {
                 n,

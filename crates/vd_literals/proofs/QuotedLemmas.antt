@@ -20,7 +20,7 @@ by_role t bs (Goes next) = shifted 1 (marks_end t next (drop 1 bs))
 by_role t bs MayEnd = first_some (shifted 2 (marks_end t Character (drop 2 bs))) (Some 1)
 by_role t bs Doubled = shifted 2 (marks_end t Character (drop 2 bs))
 
-one_byte : (t : Bool) (b : ℕ) (r : Role) → (elim r as (λ _. Option ℕ) [ | Stops ↦ None | Ends ↦ Some 1 | Goes next ↦ None | MayEnd ↦ Some 1 | Doubled ↦ None ]) ≡ by_role t (b ∷ []) r
+one_byte : (t : Bool) (b : ℕ) (r : Role) → (elim r as (λ _. Option ℕ) [ Stops ↦ None | Ends ↦ Some 1 | Goes next ↦ None | MayEnd ↦ Some 1 | Doubled ↦ None ]) ≡ by_role t (b ∷ []) r
 one_byte t b Stops = refl
 one_byte t b Ends = refl
 one_byte t b (Goes next) = refl

@@ -56,7 +56,7 @@ abbrev pub form_with : Sign → ℕ → ℕ → List ℕ → BitsForm
 form_with sign width start bs =
     elim (marks_end true Start bs) [
       | Some n ↦ Whole sign width start (start + n - 1)
-      | None ↦ elim (marks_end false Start bs) [ | Some n ↦ Absent | None ↦ Unended ]
+      | None ↦ elim (marks_end false Start bs) [ Some n ↦ Absent | None ↦ Unended ]
     ]
 
 abbrev pub form_from : List ℕ → ℕ → Option Base → BitsForm

@@ -49,7 +49,7 @@ role_of single s (b ∷ bs) =
 -- how many bytes the longest text in marks has behind its first mark, its last mark included, if it has an end
 abbrev pub marks_end : Bool → Before → List ℕ → Option ℕ
 marks_end single s [] = None
-marks_end single s (b ∷ []) = elim (role_of single s (b ∷ [])) [ | Stops ↦ None | Ends ↦ Some 1 | Goes next ↦ None | MayEnd ↦ Some 1 | Doubled ↦ None ]
+marks_end single s (b ∷ []) = elim (role_of single s (b ∷ [])) [ Stops ↦ None | Ends ↦ Some 1 | Goes next ↦ None | MayEnd ↦ Some 1 | Doubled ↦ None ]
 marks_end single s (b ∷ c ∷ cs) =
     elim (role_of single s (b ∷ c ∷ cs)) [
       | Stops ↦ None
@@ -63,4 +63,4 @@ marks_end single s (b ∷ c ∷ cs) =
 abbrev pub undoubled : List ℕ → List ℕ
 undoubled [] = []
 undoubled (b ∷ []) = b ∷ []
-undoubled (b ∷ c ∷ cs) = elim (b == 34) [ | true ↦ b ∷ undoubled cs | false ↦ b ∷ undoubled (c ∷ cs) ]
+undoubled (b ∷ c ∷ cs) = elim (b == 34) [ true ↦ b ∷ undoubled cs | false ↦ b ∷ undoubled (c ∷ cs) ]

@@ -8,5 +8,4 @@ pub mod quoted;
 pub mod runs;
 pub mod values;
 
-
 pub use runs::{more_length, run_length};

@@ -7,7 +7,6 @@ ghost use Rattle.vd_literals.specs.Values.{value_of, bounded};
 ghost use Rattle.vd_tokens.specs.Spellings as spellings;
 ghost use Rattle.vd_tokens.specs.Spellings.{greatest_integer};
 
-
 use crate::runs::run_length;
 use crate::values::{are_below, scaled, value};
 
@@ -165,13 +164,7 @@ fn base_value(digits: &[u8]) -> Option<u32>
         return Some(10);
     }
     match value(10, digits) {
-        Some(n) => {
-            if 2 <= n && n <= 16 {
-                Some(n)
-            } else {
-                None
-            }
-        }
+        Some(n) => { if 2 <= n && n <= 16 { Some(n) } else { None } }
         None => None,
     }
 }
@@ -184,13 +177,7 @@ fn power_value(n: u32, base: u32, exponent: &[u8]) -> Option<u32>
 {
     match value(10, exponent) {
         Some(times) => scaled(n, base, times),
-        None => {
-            if n == 0 {
-                Some(0)
-            } else {
-                None
-            }
-        }
+        None => { if n == 0 { Some(0) } else { None } }
     }
 }
 

@@ -11,8 +11,7 @@ fn continues(letters: bool, rest: &[u8]) -> bool
     requires { 0 < length rest.now }
     ensures { result ≡ goes_on letters rest.now }
 {
-    is_part(letters, rest[0])
-        || (rest[0] == b'_' && rest.len() > 1 && is_part(letters, rest[1]))
+    is_part(letters, rest[0]) || (rest[0] == b'_' && rest.len() > 1 && is_part(letters, rest[1]))
 }
 
 /// How many bytes go on with a run that stands in front of them.

@@ -33,9 +33,7 @@ pub fn value(base: u32, digits: &[u8]) -> Option<u32>
 pub fn are_below(base: u32, digits: &[u8]) -> bool
     ensures { result ≡ list_all (is_below base) digits.now }
 {
-    digits
-        .iter()
-        .all(|b| *b == b'_' || digit_value(*b) < base)
+    digits.iter().all(|b| *b == b'_' || digit_value(*b) < base)
 }
 
 /// A value times a power of the base, if it isn't above the greatest.

@@ -1,5 +1,4 @@
 use Rattle.std.proofs.Common.{◌≡◌, ◌≤◌, ◌++◌, replicate}
-
 use Rattle.vd_literals.proofs.bits.push_copies.Given as goal
 
 abbrev pub invariant-loop-left : goal.invariant-loop-left
