@@ -217,7 +217,7 @@ module _ (tool : List ℕ) where
 
   name_follows : (n : ℕ) → Follows n → (b : Bool) (chain : Option Chain) (known : Known) (ps : List Piece) (outer : List Bracket) → length ps ≤ n
       → run tool (if b then Some (reader (Relator known) chain outer) else None) ps
-        ≡ outcome (after_relation (condition tool n) chain (if b then compared (text_of tool known) ps else formless)) outer
+      ≡ outcome (after_relation (condition tool n) chain (if b then compared (text_of tool known) ps else formless)) outer
   name_follows n follows true chain known ps outer le = relator_follows n follows chain known ps outer le
   name_follows n follows false chain known ps outer le = refl
 
