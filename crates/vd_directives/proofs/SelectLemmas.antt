@@ -1,10 +1,9 @@
 -- The answer for a file, line by line.
-use Rattle.std.proofs.Common.{◌≡◌, ◌<◌, ◌≤◌, ◌^◌, ℕ, zero, suc, ◌+◌, Bool, true, false, not, eqb, ◌&&◌, cond, List, [], ◌∷◌, ◌++◌, length, drop, Result, Ok, Err, if◌then◌else◌, refl, sym, ap, ◌∙◌, subst, arith, append_assoc, ⊎_elim}
+use Rattle.std.proofs.Common.{◌≡◌, ◌<◌, ◌≤◌, ◌^◌, ℕ, ◌+◌, Bool, true, false, not, eqb, ◌&&◌, cond, List, [], ◌∷◌, ◌++◌, length, Ok, Err, if◌then◌else◌, refl, sym, ap, ◌∙◌, subst, arith, append_assoc, ⊎_elim}
 use Rattle.std.specs.List.{AllByRecursion}
 use Rattle.std.proofs.lemmas.Bool.{cases_lt}
 use Rattle.std.proofs.lemmas.Bool.Decides.{nat_tests}
 use Rattle.std.proofs.lemmas.List.{append-nil, drop_all}
-use Rattle.vd_bytes.specs.declared.answers.Refused.{Refused}
 use Rattle.vd_directives.specs.declared.groups.Level.{Level}
 use Rattle.vd_directives.specs.declared.kinds.Kind.{Kind}
 use Rattle.vd_directives.specs.declared.kinds.Kind.TheVariants.{Plain, If, Elsif, Else, End, Warning, Error, Broken, Unknown}
@@ -91,7 +90,7 @@ in_front_kind number line Unknown lines warnings answer = in_front_same lines wa
 
 in_front_selected : (selected : Bool) (number : ℕ) (line : List ℕ) (kind : Kind) (lines warnings : List Line) (answer : Answer)
     → in_front lines warnings (if selected then with_kind number line kind answer else answer)
-      ≡ in_front (lines ++ (if selected then kept_lines number line kind else [])) (warnings ++ (if selected then kept_warnings number kind else [])) answer
+    ≡ in_front (lines ++ (if selected then kept_lines number line kind else [])) (warnings ++ (if selected then kept_warnings number kind else [])) answer
 in_front_selected true number line kind lines warnings answer = in_front_kind number line kind lines warnings answer
 in_front_selected false number line kind lines warnings answer = in_front_same lines warnings answer
 
@@ -148,8 +147,8 @@ selecting_first tool file bytes = record { before = []; groups_are = refl; unbro
 -- the answer from a line on, by the groups
 from_line : (tool : List ℕ) (file number : ℕ) (before : List Kind) (line after : List ℕ) (groups : List Level) → levels_of before ≡ groups → AreUnbroken before
     → answer_from tool file number before (line ∷ lines_of after)
-      ≡ line_answer file number line (kind_of tool line) (here groups) (is_nil after && not (is_nil (entered (kind_of tool line) groups))) (level_rule (kind_of tool line) groups)
-        (answer_from tool file (number + 1) (kind_of tool line ∷ before) (lines_of after))
+    ≡ line_answer file number line (kind_of tool line) (here groups) (is_nil after && not (is_nil (entered (kind_of tool line) groups))) (level_rule (kind_of tool line) groups)
+    (answer_from tool file (number + 1) (kind_of tool line ∷ before) (lines_of after))
 from_line tool file number before line after groups is unbroken =
     let kind = kind_of tool line in
     let next = answer_from tool file (number + 1) (kind ∷ before) (lines_of after) in

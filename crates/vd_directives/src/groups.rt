@@ -34,13 +34,7 @@ fn branch_rule(groups: &Stack<Level>) -> u16
 {
     match groups.top() {
         None => 112,
-        Some(level) => {
-            if level.has_else {
-                112
-            } else {
-                0
-            }
-        }
+        Some(level) => { if level.has_else { 112 } else { 0 } }
     }
 }
 

@@ -121,12 +121,7 @@ fn only_text(pieces: &[Piece]) -> Option<&[u8]>
 }
 
 /// What a directive is, by its head and the pieces behind it.
-fn with_pieces(
-    alloc: Global,
-    tool: &[u8],
-    head: Head,
-    pieces: &[Piece],
-) -> Result<Kind, AllocError>
+fn with_pieces(alloc: Global, tool: &[u8], head: Head, pieces: &[Piece]) -> Result<Kind, AllocError>
     ensures { IfOk result (λ kind. kind ≡ directives.with_pieces tool.now head pieces.now) }
 {
     match head {

@@ -24,8 +24,10 @@ fn refused(alloc: Global, text: &[u8]) -> Result<(u16, u32, u32), AllocError>
 fn a_taken_if_drops_its_else(rt: HostRuntime) -> Result<(), Fail> {
     let tool_type = Text::from_slice(rt.alloc(), b"SYNTHESIS")?;
     let text = b"a\n`if TOOL_TYPE = \"SYNTHESIS\" then\nb\n`else\nc\n`end if\n`warning \"d\"\"\"\n";
-    let selected =
-        select(rt.alloc(), 0, text, &Settings { tool_type }).expect(&rt, "it is selected");
+    let selected = select(rt.alloc(), 0, text, &Settings { tool_type }).expect(
+        &rt,
+        "it is selected",
+    );
     let lines = selected.lines.as_slice();
     assert_eq!(rt; lines.len(), 2);
     assert_eq!(rt; lines[1].number, 3);
@@ -43,7 +45,10 @@ fn groups_are_refused(rt: HostRuntime) -> Result<(), Fail> {
     let text = b"`if A = \"\" then\n`else\n`else\n`end\nx\n";
     assert_eq!(rt; refused(rt.alloc(), text)?, (112, 3, 1));
     assert_eq!(rt; refused(rt.alloc(), b"x\n \t`else\n")?, (112, 2, 3));
-    assert_eq!(rt; refused(rt.alloc(), b"`if A = \"\" then\n  `error \"\"")?, (112, 2, 1));
+    assert_eq!(rt;
+        refused(rt.alloc(), b"`if A = \"\" then\n  `error \"\"")?,
+        (112, 2, 1)
+    );
     Ok(())
 }
 
@@ -51,7 +56,10 @@ fn groups_are_refused(rt: HostRuntime) -> Result<(), Fail> {
 fn forms_are_refused(rt: HostRuntime) -> Result<(), Fail> {
     assert_eq!(rt; refused(rt.alloc(), b"x\n  `error \"no\"\n")?, (113, 2, 3));
     assert_eq!(rt; refused(rt.alloc(), b"`endif")?, (111, 1, 1));
-    assert_eq!(rt; refused(rt.alloc(), b"`if entity = \"\" then\n`end")?, (111, 1, 1));
+    assert_eq!(rt;
+        refused(rt.alloc(), b"`if entity = \"\" then\n`end")?,
+        (111, 1, 1)
+    );
     let text = b"`if A = \"\" and B = \"\" or C = \"\" then\n`end";
     assert_eq!(rt; refused(rt.alloc(), text)?, (111, 1, 1));
     let text = b"`if A = \"x\" then\n`endif\n`error \"no\"\n`end if -- A\n";
