@@ -1,16 +1,15 @@
 -- What is read piece by piece is the condition.
-use Rattle.std.proofs.Common.{◌≡◌, ◌≤◌, ℕ, zero, suc, ◌+◌, Bool, true, false, not, List, [], ◌∷◌, length, Option, Some, None, if◌then◌else◌, refl, sym, ap, ◌∙◌, subst, arith}
+use Rattle.std.proofs.Common.{◌≡◌, ◌≤◌, ℕ, zero, suc, Bool, true, false, not, List, [], ◌∷◌, length, Option, Some, None, if◌then◌else◌, refl, sym, ap, ◌∙◌, arith}
 use Rattle.vd_directives.specs.declared.words.Keyword.{Keyword}
 use Rattle.vd_directives.specs.declared.words.Keyword.TheVariants.{Not, Then, Join, Other}
 use Rattle.vd_directives.specs.declared.words.Known.{Known}
 use Rattle.vd_directives.specs.declared.conditions.Chain.{Chain}
 use Rattle.vd_directives.specs.declared.conditions.Bracket.{Bracket}
-use Rattle.vd_directives.specs.declared.conditions.Reader.{Reader}
 use Rattle.vd_directives.specs.declared.conditions.Awaited.TheVariants.{Relation, Behind, Relator, Text, More, End}
 use Rattle.vd_directives.specs.declared.pieces.Piece.{Piece}
 use Rattle.vd_directives.specs.declared.pieces.Piece.TheVariants.{Word, Quoted, Compare, Opening, Closing}
 use Rattle.vd_directives.specs.Conditions.{is_identifier, known_of, text_of, relates, keyword_of, joined, goes_on, Reading, formless, reads, close_after, closed, against, compared, bracketed, relation_of_word, relation, more_of, chain_after, after_relation, condition, then_alone, before_then, whole, condition_of}
-use Rattle.vd_directives.specs.Steps.{reader, opened, at_word, at_relation, at_bracket, at_relator, at_text, at_keyword, at_closing, at_more, at_awaited, stepped, answered, run}
+use Rattle.vd_directives.specs.Steps.{reader, opened, at_word, at_keyword, run}
 use Rattle.vd_directives.specs.Stacks.{is_nil}
 
 module _ (tool : List ℕ) where

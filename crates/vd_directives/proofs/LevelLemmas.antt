@@ -1,5 +1,5 @@
 -- The groups that the code keeps say of a line what the lines before it say.
-use Rattle.std.proofs.Common.{◌≡◌, ℕ, zero, suc, Bool, true, false, not, ◌&&◌, List, [], ◌∷◌, drop, Option, Some, None, if◌then◌else◌, refl, sym, ap, ◌∙◌, subst, arith}
+use Rattle.std.proofs.Common.{◌≡◌, ℕ, zero, suc, Bool, true, false, not, ◌&&◌, List, [], ◌∷◌, drop, Option, Some, None, if◌then◌else◌, refl, ap, ◌∙◌, subst, arith}
 use Rattle.vd_directives.specs.declared.groups.Level.{Level}
 use Rattle.vd_directives.specs.declared.kinds.Kind.{Kind}
 use Rattle.vd_directives.specs.declared.kinds.Kind.TheVariants.{Plain, If, Elsif, Else, End, Warning, Error, Broken, Unknown}

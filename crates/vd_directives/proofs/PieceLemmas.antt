@@ -1,9 +1,9 @@
 -- Quoted texts and pieces are read from the front.
-use Rattle.std.proofs.Common.{◌≡◌, ◌≢◌, ◌<◌, ◌≤◌, ℕ, zero, suc, ◌+◌, ◌-◌, Bool, true, false, eqb, List, [], ◌∷◌, ◌++◌, length, drop, Option, Some, None, refl, sym, ap, ◌∙◌, subst, arith, append_assoc}
+use Rattle.std.proofs.Common.{◌≡◌, ℕ, suc, true, false, eqb, List, [], ◌∷◌, ◌++◌, drop, Option, Some, None, refl, sym, ap, ◌∙◌, append_assoc}
 use Rattle.std.specs.Option.{option_map}
 use Rattle.std.proofs.lemmas.List.{append-nil}
 use Rattle.vd_directives.specs.declared.pieces.Piece.{Piece}
-use Rattle.vd_directives.specs.Pieces.{is_graphic, starts_with, said_first, quoted, Begins, ends, breaks, piece, piece_first, spacing_length, first_of, pieces_within}
+use Rattle.vd_directives.specs.Pieces.{is_graphic, starts_with, said_first, quoted, Begins, ends, piece, piece_first, spacing_length, first_of, pieces_within}
 
 -- what was said so far, in front
 abbrev pub said_before : List ℕ → Option (List ℕ × List ℕ) → Option (List ℕ × List ℕ)

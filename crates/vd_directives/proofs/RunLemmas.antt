@@ -1,5 +1,5 @@
 -- Bytes of a kind are counted from the front.
-use Rattle.std.proofs.Common.{◌≡◌, ◌<◌, ◌≤◌, ℕ, ◌+◌, Bool, true, false, List, [], ◌∷◌, length, refl, sym, ap, ◌∙◌, arith}
+use Rattle.std.proofs.Common.{◌≡◌, ℕ, ◌+◌, Bool, true, false, List, [], ◌∷◌, length, refl, ap, ◌∙◌, arith}
 use Rattle.vd_directives.specs.Pieces.{run_length}
 
 pub run_more : (is_one : ℕ → Bool) (rest after : List ℕ) (b n total : ℕ) → rest ≡ b ∷ after → is_one b ≡ true → total ≡ n + run_length is_one rest

@@ -1,5 +1,5 @@
 -- Lines that are directives, and their forms. (IEEE 1076-2019, conditional analysis tool directives.)
-use Rattle.std.specs.Prelude.{ℕ, ◌+◌, Bool, true, false, ◌||◌, ◌==◌, List, [], ◌∷◌, take, drop, Option, Some, None, codes, if◌then◌else◌}
+use Rattle.std.specs.Prelude.{ℕ, Bool, ◌||◌, ◌==◌, List, [], ◌∷◌, take, drop, Option, Some, None, codes, if◌then◌else◌}
 use Rattle.std.specs.Str.{bytes_eq}
 use Rattle.vd_trees.specs.Identifiers.{lowered}
 use Rattle.vd_directives.specs.declared.kinds.Kind.{Kind}

@@ -2,7 +2,7 @@
 -- What stands before a line is given as a list, the nearest line first.
 use Rattle.std.specs.Prelude.{ℕ, zero, suc, Bool, true, false, not, ◌&&◌, List, [], ◌∷◌, Option, Some, None, if◌then◌else◌}
 use Rattle.vd_directives.specs.declared.kinds.Kind.{Kind}
-use Rattle.vd_directives.specs.declared.kinds.Kind.TheVariants.{Plain, If, Elsif, Else, End, Warning, Error, Broken, Unknown}
+use Rattle.vd_directives.specs.declared.kinds.Kind.TheVariants.{If, Elsif, Else, End, Error, Broken, Unknown}
 
 -- ---- the branches of the group round a line, where so many groups that were closed in between are passed over
 

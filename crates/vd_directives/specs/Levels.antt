@@ -1,8 +1,8 @@
 -- The groups that are open, the innermost first. Which lines are selected is defined apart from this, in Groups.
-use Rattle.std.specs.Prelude.{ℕ, Bool, true, false, not, ◌&&◌, List, [], ◌∷◌, Option, Some, None, if◌then◌else◌}
+use Rattle.std.specs.Prelude.{ℕ, Bool, true, false, not, ◌&&◌, List, [], ◌∷◌, if◌then◌else◌}
 use Rattle.vd_directives.specs.declared.groups.Level.{Level}
 use Rattle.vd_directives.specs.declared.kinds.Kind.{Kind}
-use Rattle.vd_directives.specs.declared.kinds.Kind.TheVariants.{Plain, If, Elsif, Else, End, Warning, Error, Broken, Unknown}
+use Rattle.vd_directives.specs.declared.kinds.Kind.TheVariants.{If, Elsif, Else, End, Error, Broken, Unknown}
 use Rattle.vd_directives.specs.Stacks.{is_nil}
 
 abbrev pub here : List Level → Bool

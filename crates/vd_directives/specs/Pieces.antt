@@ -1,5 +1,5 @@
 -- The pieces of a directive. (IEEE 1076-2019, lexical elements.)
-use Rattle.std.specs.Prelude.{◌≡◌, ℕ, zero, suc, ◌+◌, Bool, true, false, ◌&&◌, ◌||◌, ◌==◌, nat_le, List, [], ◌∷◌, length, take, drop, Option, Some, None, option_map, if◌then◌else◌}
+use Rattle.std.specs.Prelude.{◌≡◌, ℕ, zero, suc, ◌+◌, Bool, false, ◌&&◌, ◌||◌, ◌==◌, nat_le, List, [], ◌∷◌, length, take, drop, Option, Some, None, option_map, if◌then◌else◌}
 use Rattle.vd_trees.specs.Identifiers.{is_letter_or_digit, lowered}
 use Rattle.vd_directives.specs.declared.pieces.Relator.TheVariants.{Same, Differs, Below, AtMost, Above, AtLeast}
 use Rattle.vd_directives.specs.declared.pieces.Piece.{Piece}

@@ -1,8 +1,7 @@
 -- A condition read piece by piece, with the brackets that are open round it. Conditions are defined apart from this, in Conditions.
 use Rattle.std.specs.Prelude.{ℕ, Bool, true, false, not, List, [], ◌∷◌, Option, Some, None, if◌then◌else◌}
-use Rattle.vd_directives.specs.declared.words.Operator.{Operator}
 use Rattle.vd_directives.specs.declared.words.Keyword.{Keyword}
-use Rattle.vd_directives.specs.declared.words.Keyword.TheVariants.{Not, Then, Join, Other}
+use Rattle.vd_directives.specs.declared.words.Keyword.TheVariants.{Not, Then, Join}
 use Rattle.vd_directives.specs.declared.words.Known.{Known}
 use Rattle.vd_directives.specs.declared.conditions.Chain.{Chain}
 use Rattle.vd_directives.specs.declared.conditions.Bracket.{Bracket}

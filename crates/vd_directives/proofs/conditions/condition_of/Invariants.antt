@@ -1,5 +1,5 @@
-use Rattle.std.proofs.Common.{◌≡◌, drop, Some, None, []}
-use Rattle.vd_directives.specs.Steps.{run, reader}
+use Rattle.std.proofs.Common.{◌≡◌, drop, Some}
+use Rattle.vd_directives.specs.Steps.{run}
 use Rattle.vd_directives.specs.Conditions.{condition_of}
 use Rattle.vd_directives.proofs.conditions.condition_of.Given as goal
 

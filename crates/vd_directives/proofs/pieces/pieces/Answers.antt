@@ -1,5 +1,5 @@
 use Rattle.std.proofs.Common.{◌≡◌, ◌+◌, ◌-◌, length, suc, ap, sym, ◌∙◌, subst, arith}
-use Rattle.vd_directives.specs.Pieces.{IsFirst, pieces_of, pieces_within, first_of, piece_first, ends, breaks, piece}
+use Rattle.vd_directives.specs.Pieces.{IsFirst, pieces_of, pieces_within, first_of, ends, breaks, piece}
 use Rattle.vd_directives.proofs.PieceLemmas.{found_before, found_step, found_end, found_more}
 use Rattle.vd_directives.proofs.pieces.pieces.Goals as goal
 

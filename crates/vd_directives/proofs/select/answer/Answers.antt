@@ -1,4 +1,4 @@
-use Rattle.std.proofs.Common.{◌≡◌, ◌<◌, ◌≤◌, ◌+◌, length, ◌∙◌, arith}
+use Rattle.std.proofs.Common.{◌≡◌, ◌<◌, ◌∙◌, arith}
 use Rattle.vd_directives.specs.Lines.{lines_of}
 use Rattle.vd_directives.specs.Stacks.{is_nil}
 use Rattle.vd_directives.proofs.SelectLemmas.{nil_length, first_short, selecting_more, selecting_breaks}

@@ -1,4 +1,4 @@
-use Rattle.std.proofs.Common.{◌≡◌, ◌+◌, ◌≤◌, length}
+use Rattle.std.proofs.Common.{◌+◌, ◌≤◌, length}
 use Rattle.vd_directives.proofs.SelectLemmas.{IsSelecting}
 use Rattle.vd_directives.proofs.select.answer.Given as goal
 
