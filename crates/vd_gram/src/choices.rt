@@ -30,7 +30,7 @@ impl Choices {
     #[tactic(auto, using(crate::proofs::ChoiceLemmas::choices))]
     pub(crate) fn choice(
         &mut self,
-        table: &Table,
+        table: &Table<'_>,
         nonterminal: Symbol,
         ahead: Symbol,
     ) -> Result<Option<u32>, AllocError>
@@ -62,7 +62,7 @@ fn key(nonterminal: Symbol, ahead: Symbol) -> u32
 }
 
 /// Whether a symbol tells of a production, and it is one of the nonterminal.
-fn tells(table: &Table, production: &Production, nonterminal: Symbol, ahead: Symbol) -> bool
+fn tells(table: &Table<'_>, production: &Production<'_>, nonterminal: Symbol, ahead: Symbol) -> bool
     ensures { result ≡ tells table.now nonterminal ahead production.now }
 {
     production.left == nonterminal && is_sign(table, production, ahead)
@@ -70,7 +70,7 @@ fn tells(table: &Table, production: &Production, nonterminal: Symbol, ahead: Sym
 
 /// The first production of a nonterminal of which a symbol tells.
 #[tactic(auto, using(crate::proofs::ChoiceLemmas::finding))]
-fn find_choice(table: &Table, nonterminal: Symbol, ahead: Symbol) -> Option<usize>
+fn find_choice(table: &Table<'_>, nonterminal: Symbol, ahead: Symbol) -> Option<usize>
     ensures { MatchOption result (IsNoChoice table.now nonterminal ahead) (λ production. IsChoice table.now nonterminal ahead production) }
 {
     for (place, production) in table.productions.iter().enumerate() {

@@ -15,7 +15,7 @@ use std::alloc::{AllocError, Global};
 #[tactic(auto, using(crate::proofs::AdvanceLemmas::starting))]
 fn start(
     alloc: Global,
-    checked: &CheckedTable,
+    checked: &CheckedTable<'_>,
     symbols: &[Symbol],
     deep: u32,
 ) -> Result<Reading, AllocError>
@@ -37,7 +37,7 @@ fn start(
 #[tactic(auto, using(crate::proofs::AdvanceLemmas::parse_read))]
 pub fn parse(
     alloc: Global,
-    table: &CheckedTable,
+    table: &CheckedTable<'_>,
     symbols: &[Symbol],
     deep: u32,
 ) -> Result<Derivation, ParseEnd>

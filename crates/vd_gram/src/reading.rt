@@ -33,7 +33,7 @@ pub(crate) fn narrow(number: usize) -> Result<u32, AllocError>
 }
 
 /// How many marked nodes stand above the parts of a production.
-fn depth_below(table: &Table, left: Symbol, depth: u32) -> Result<u32, AllocError>
+fn depth_below(table: &Table<'_>, left: Symbol, depth: u32) -> Result<u32, AllocError>
     ensures { IfOk result (λ below. below ≡ depth + mark_one table.now left) }
 {
     if !has(table.marked, left) {
@@ -59,7 +59,7 @@ fn symbol_ahead(symbols: &[Symbol], place: usize) -> Symbol
 
 impl Reading {
     /// Puts a production in the place of its left.
-    fn put(&mut self, table: &Table, number: u32, depth: u32) -> Result<(), AllocError>
+    fn put(&mut self, table: &Table<'_>, number: u32, depth: u32) -> Result<(), AllocError>
         requires { number < length table.now.productions.now }
         ensures put { OnOk result (IsPut table.now number depth self.old self.new) }
         ensures choices { self.new.choices ≡ self.old.choices }
@@ -79,7 +79,7 @@ impl Reading {
     /// Puts the production that the symbol ahead tells in the place of a nonterminal, and says
     /// whether it tells one.
     #[tactic(auto, using(crate::proofs::ChoiceLemmas::choice_within))]
-    fn expand(&mut self, table: &Table, next: Pending, ahead: Symbol) -> Result<bool, AllocError>
+    fn expand(&mut self, table: &Table<'_>, next: Pending, ahead: Symbol) -> Result<bool, AllocError>
         requires { AreChoices table.now self.old.choices.known }
         ensures expanded { IfOk result (λ told. MatchBool told (IsExpanded table.now ahead next self.old self.new)
             (IsNoChoice table.now next.symbol ahead)) }
@@ -115,7 +115,7 @@ impl Reading {
     /// Takes the symbol ahead, or the end where nothing is to come, and says whether it was no end.
     pub(crate) fn advance(
         &mut self,
-        checked: &CheckedTable,
+        checked: &CheckedTable<'_>,
         symbols: &[Symbol],
         place: usize,
         deep: u32,
@@ -142,7 +142,7 @@ impl Reading {
     /// Takes the symbol ahead, where a terminal has to come.
     fn accept(
         &mut self,
-        checked: &CheckedTable,
+        checked: &CheckedTable<'_>,
         symbols: &[Symbol],
         place: usize,
         deep: u32,
@@ -168,7 +168,7 @@ impl Reading {
     /// Takes the end, where nothing is to come.
     fn finish(
         &self,
-        checked: &CheckedTable,
+        checked: &CheckedTable<'_>,
         symbols: &[Symbol],
         place: usize,
         deep: u32,

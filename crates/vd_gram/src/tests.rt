@@ -6,7 +6,7 @@ use crate::{Cursor, Opened, ParseEnd, Symbol, Table, check, parse};
 use std::alloc::{AllocError, Global};
 use std::test::Fail;
 
-fn is_taken(table: Table) -> bool {
+fn is_taken(table: Table<'_>) -> bool {
     check(table).is_ok()
 }
 
@@ -44,7 +44,7 @@ fn show(out: &mut Vec<u32>, trees: &Cursor<'_>) -> Result<(), AllocError> {
 /// What `parse` answers, as numbers: those of the derivation; or 200 and a place; or 201; or 202.
 fn read(
     alloc: Global,
-    table: Table,
+    table: Table<'_>,
     symbols: &[Symbol],
     deep: u32,
 ) -> Result<Vec<u32>, AllocError> {
