@@ -2,9 +2,10 @@
 
 ghost use Rattle.std.specs.Prelude.{◌≡◌, ◌+◌, ◌*◌, ◌<◌, ℕ, IfOk, MatchOption};
 ghost use Rattle.vd_gram.specs.declared.tables.Table.{Table};
-ghost use Rattle.vd_gram.specs.Runs.{IsChoice, IsNoChoice, AreChoices, tells};
+ghost use Rattle.vd_gram.specs.Runs.{IsChoice, IsNoChoice, AreChoices, IsKnown, tells};
 
 use crate::claims::is_sign;
+use crate::numbers::narrow;
 use crate::tables::{Production, Symbol, Table};
 use std::alloc::{AllocError, Global};
 use std::collections::HashMap;
@@ -38,6 +39,7 @@ impl Choices {
         ensures choice { IfOk result (λ choice. MatchOption choice (IsNoChoice table.now nonterminal ahead)
             (λ production. IsChoice table.now nonterminal ahead production)) }
         ensures choices { AreChoices table.now self.new.known }
+        ensures known { IfOk result (λ choice. IsKnown self.new.known nonterminal ahead choice) }
     {
         let key = key(nonterminal, ahead);
         if let Some(production) = self.known.get(&key) {
@@ -46,7 +48,7 @@ impl Choices {
         match find_choice(table, nonterminal, ahead) {
             None => Ok(None),
             Some(place) => {
-                let production = u32::try_from(place).map_err(|_| AllocError)?;
+                let production = narrow(place)?;
                 self.known.insert(key, production)?;
                 Ok(Some(production))
             }

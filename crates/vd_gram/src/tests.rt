@@ -171,3 +171,22 @@ fn depth_is_met_and_passed(rt: HostRuntime) -> Result<(), Fail> {
     assert_eq!(rt; refused.as_slice(), [200, 3].as_slice());
     Ok(())
 }
+
+#[test]
+fn a_long_text_is_read(rt: HostRuntime) -> Result<(), Fail> {
+    let mut symbols = Vec::new(rt.alloc());
+    for _ in 0..70000 {
+        symbols.push(A)?;
+    }
+    match check(LEAST) {
+        Err(_) => assert!(rt; false),
+        Ok(checked) => {
+            let answer = parse(rt.alloc(), &checked, &symbols, 80000);
+            assert!(rt; answer.is_ok());
+            symbols.push(C)?;
+            let answer = parse(rt.alloc(), &checked, &symbols, 80000);
+            assert!(rt; matches!(answer, Err(ParseEnd::At(70000))));
+        }
+    }
+    Ok(())
+}
