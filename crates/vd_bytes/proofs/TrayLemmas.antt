@@ -3,7 +3,7 @@ use Rattle.std.proofs.Common.{◌≡◌, inl, inr, ℕ, ◌+◌, ◌-◌, ◌^�
 use Rattle.std.proofs.lemmas.List.{append-nil}
 use Rattle.std.proofs.Math.Seq.{take-add, take-length}
 use Rattle.vd_bytes.specs.declared.channels.Channel.{Channel}
-use Rattle.vd_bytes.specs.Trays.{Rose, RoseAt, Appends, AppendsFront, OnlyReads, OnlyWrites}
+use Rattle.vd_bytes.specs.Trays.{Rose, RoseAt, SameCounts, Appends, AppendsFront, OnlyReads, OnlyWrites}
 
 -- a count that rose in a later call rose in all of them together, where it never fell
 pub Rose-later : (a b c : ℕ) → a ≤ b → Rose b c → Rose a c
@@ -19,6 +19,10 @@ Rose-earlier a b c up (inr top) h = grind arith
 pub Rose-still : (n : ℕ) → n < 2 ^ 64 - 1 → Rose n n → ⊥
 Rose-still n low (inl lt) = omega arith
 Rose-still n low (inr top) = omega arith
+
+-- counts that stay in two calls stay in both together
+pub SameCounts-trans : (a b c : List ℕ → ℕ) → SameCounts a b → SameCounts b c → SameCounts a c
+SameCounts-trans a b c first second = λ name. second name ∙ first name
 
 -- where the name that is told is this one, its count rose
 pub Rose-from_RoseAt : (told : Option (List ℕ)) (name : List ℕ) (old new : List ℕ → ℕ) → IfSome told (λ opened. opened ≡ name) → RoseAt told old new → Rose (old name) (new name)
@@ -57,33 +61,36 @@ AppendsFront-none a b bytes same = (0, Appends-same a b same)
 pub Appends-more : (a b c : Option (List ℕ)) (bytes : List ℕ) (done k : ℕ) → Appends a b (take done bytes) → Appends b c (take k (drop done bytes)) → Appends a c (take (done + k) bytes)
 Appends-more a b c bytes done k first second = rw (take-add done k bytes) (Appends-trans a b c (take done bytes) (take k (drop done bytes)) first second)
 
-module _ {S : Type 0} {files : S → Option (List (List ℕ × List ℕ))} {written : S → Channel → Option (List ℕ)} {read_faults : S → List ℕ → ℕ} {write_faults : S → ℕ} where
+module _ {S : Type 0} {files : S → Option (List (List ℕ × List ℕ))} {written : S → Channel → Option (List ℕ)} {is_begun : S → Channel → Bool} {read_faults : S → List ℕ → ℕ} {write_faults : S → ℕ} where
   -- no call
-  pub OnlyReads-refl : (a : S) → OnlyReads files written read_faults write_faults a a
-  OnlyReads-refl a = record { same_files = refl; same_channels = λ _. refl; read_counts = λ _. omega arith; write_count = refl }
+  pub OnlyReads-refl : (a : S) → OnlyReads files written is_begun read_faults write_faults a a
+  OnlyReads-refl a = record { same_files = refl; same_channels = λ _. refl; same_begun = λ _. refl; read_counts = λ _. omega arith; write_count = refl }
 
   -- one call after another
-  pub OnlyReads-trans : {a b c : S} → OnlyReads files written read_faults write_faults a b → OnlyReads files written read_faults write_faults b c → OnlyReads files written read_faults write_faults a c
+  pub OnlyReads-trans : {a b c : S} → OnlyReads files written is_begun read_faults write_faults a b → OnlyReads files written is_begun read_faults write_faults b c → OnlyReads files written is_begun read_faults write_faults a c
   OnlyReads-trans first second = record {
     same_files = second.same_files ∙ first.same_files;
     same_channels = λ to. second.same_channels to ∙ first.same_channels to;
+    same_begun = λ to. second.same_begun to ∙ first.same_begun to;
     read_counts = λ name. omega (arith, first.read_counts name, second.read_counts name);
     write_count = second.write_count ∙ first.write_count;
   }
 
-module _ {S : Type 0} {files : S → Option (List (List ℕ × List ℕ))} {is_open : S → Bool} {open_name rest : S → Option (List ℕ)} {written : S → Channel → Option (List ℕ)} {read_faults : S → List ℕ → ℕ} {write_faults : S → ℕ} {to : Channel} where
+module _ {S : Type 0} {files : S → Option (List (List ℕ × List ℕ))} {is_open : S → Bool} {open_name rest : S → Option (List ℕ)} {written : S → Channel → Option (List ℕ)} {is_begun : S → Channel → Bool} {read_faults : S → List ℕ → ℕ} {write_faults : S → ℕ} {to : Channel} where
   -- no call
-  pub OnlyWrites-refl : (a : S) → OnlyWrites files is_open open_name rest written read_faults write_faults to a a
-  OnlyWrites-refl a = record { same_files = refl; same_open = refl; same_name = refl; same_rest = refl; other_channels = λ _ _. refl; read_counts = λ _. refl; write_count = omega arith }
+  pub OnlyWrites-refl : (a : S) → OnlyWrites files is_open open_name rest written is_begun read_faults write_faults to a a
+  OnlyWrites-refl a = record { same_files = refl; same_open = refl; same_name = refl; same_rest = refl; other_channels = λ _ _. refl; others_begun = λ _ _. refl; stays_begun = λ begun. begun; read_counts = λ _. refl; write_count = omega arith }
 
   -- one call after another
-  pub OnlyWrites-trans : {a b c : S} → OnlyWrites files is_open open_name rest written read_faults write_faults to a b → OnlyWrites files is_open open_name rest written read_faults write_faults to b c → OnlyWrites files is_open open_name rest written read_faults write_faults to a c
+  pub OnlyWrites-trans : {a b c : S} → OnlyWrites files is_open open_name rest written is_begun read_faults write_faults to a b → OnlyWrites files is_open open_name rest written is_begun read_faults write_faults to b c → OnlyWrites files is_open open_name rest written is_begun read_faults write_faults to a c
   OnlyWrites-trans first second = record {
     same_files = second.same_files ∙ first.same_files;
     same_open = second.same_open ∙ first.same_open;
     same_name = second.same_name ∙ first.same_name;
     same_rest = second.same_rest ∙ first.same_rest;
     other_channels = λ other differs. second.other_channels other differs ∙ first.other_channels other differs;
+    others_begun = λ other differs. second.others_begun other differs ∙ first.others_begun other differs;
+    stays_begun = λ begun. second.stays_begun (first.stays_begun begun);
     read_counts = λ name. second.read_counts name ∙ first.read_counts name;
     write_count = omega (arith, first.write_count, second.write_count);
   }

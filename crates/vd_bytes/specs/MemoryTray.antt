@@ -1,14 +1,16 @@
 -- A tray in memory.
 use Rattle.std.specs.Prelude.{ℕ}
+use Rattle.vd_bytes.specs.Begun.{Begun}
 use Rattle.vd_bytes.specs.Calls.{Numbers}
 use Rattle.vd_bytes.specs.Folder.{Files}
 use Rattle.vd_bytes.specs.Outs.{Written}
 
--- what contracts see of it: its files, what was written, the calls of each kind, the counts of faults, and how many
+-- what contracts see of it: its files, what was written, the channels that were begun, the calls of each kind, the counts of faults, and how many
 -- bytes a call takes at most
 pub record MemoryState : Type 0 where
   pub files : Files
   pub out : Written
+  pub begun : Begun
   pub opens : Numbers
   pub reads : Numbers
   pub writes : Numbers

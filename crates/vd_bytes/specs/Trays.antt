@@ -1,5 +1,5 @@
 -- Files by name, counts of faults, and what a call reads and writes. What a tray doesn't tell is `None`.
-use Rattle.std.specs.Prelude.{◌≡◌, ◌≢◌, ◌⊎◌, ℕ, nat_lt, ◌+◌, ◌-◌, ◌^◌, ◌<◌, ◌≤◌, Bool, false, ◌||◌, List, [], ◌∷◌, ◌++◌, length, take, drop, bytes_eq, Option, None, Some, option_map, if◌then◌else◌}
+use Rattle.std.specs.Prelude.{◌≡◌, ◌≢◌, ◌⊎◌, ℕ, nat_lt, ◌+◌, ◌-◌, ◌^◌, ◌<◌, ◌≤◌, Bool, false, ◌||◌, List, [], ◌∷◌, ◌++◌, length, take, drop, bytes_eq, Option, None, Some, option_map, IsTrue, if◌then◌else◌}
 use Rattle.vd_bytes.specs.declared.channels.Channel.{Channel}
 
 -- the bytes of the first file of that name, and none where no file has it
@@ -38,22 +38,29 @@ Appends old new bytes = new ≡ option_map (λ out. out ++ bytes) old
 abbrev pub AppendsFront : Option (List ℕ) → Option (List ℕ) → List ℕ → Type 0
 AppendsFront old new bytes = (k : ℕ) × Appends old new (take k bytes)
 
--- Calls opened and read, and did nothing else: the files and all that is written stay, and no count of faults fell.
--- The first four arguments are the tray's meanings of these names.
-pub record OnlyReads {S : Type 0} (files : S → Option (List (List ℕ × List ℕ))) (written : S → Channel → Option (List ℕ)) (read_faults : S → List ℕ → ℕ) (write_faults : S → ℕ) (old new : S) : Type 0 where
+-- the count of every name stayed
+abbrev pub SameCounts : (List ℕ → ℕ) → (List ℕ → ℕ) → Type 0
+SameCounts old new = (name : List ℕ) → new name ≡ old name
+
+-- Calls opened and read, and did nothing else: the files, all that is written and what is begun stay, and no count of
+-- faults fell. The first five arguments are the tray's meanings of these names.
+pub record OnlyReads {S : Type 0} (files : S → Option (List (List ℕ × List ℕ))) (written : S → Channel → Option (List ℕ)) (is_begun : S → Channel → Bool) (read_faults : S → List ℕ → ℕ) (write_faults : S → ℕ) (old new : S) : Type 0 where
   pub same_files : files new ≡ files old
   pub same_channels : (to : Channel) → written new to ≡ written old to
+  pub same_begun : (to : Channel) → is_begun new to ≡ is_begun old to
   pub read_counts : (name : List ℕ) → read_faults old name ≤ read_faults new name
   pub write_count : write_faults new ≡ write_faults old
 
 -- Calls wrote on one channel, and did nothing else: the files, what is open, the other channels and the counts of
--- faults in reading stay, and the count of faults in writing didn't fall.
--- The first seven arguments are the tray's meanings of these names.
-pub record OnlyWrites {S : Type 0} (files : S → Option (List (List ℕ × List ℕ))) (is_open : S → Bool) (open_name rest : S → Option (List ℕ)) (written : S → Channel → Option (List ℕ)) (read_faults : S → List ℕ → ℕ) (write_faults : S → ℕ) (to : Channel) (old new : S) : Type 0 where
+-- faults in reading stay, and the count of faults in writing didn't fall. Where that channel was begun, it still is.
+-- The first eight arguments are the tray's meanings of these names.
+pub record OnlyWrites {S : Type 0} (files : S → Option (List (List ℕ × List ℕ))) (is_open : S → Bool) (open_name rest : S → Option (List ℕ)) (written : S → Channel → Option (List ℕ)) (is_begun : S → Channel → Bool) (read_faults : S → List ℕ → ℕ) (write_faults : S → ℕ) (to : Channel) (old new : S) : Type 0 where
   pub same_files : files new ≡ files old
   pub same_open : is_open new ≡ is_open old
   pub same_name : open_name new ≡ open_name old
   pub same_rest : rest new ≡ rest old
   pub other_channels : (other : Channel) → other ≢ to → written new other ≡ written old other
-  pub read_counts : (name : List ℕ) → read_faults new name ≡ read_faults old name
+  pub others_begun : (other : Channel) → other ≢ to → is_begun new other ≡ is_begun old other
+  pub stays_begun : IsTrue (is_begun old to) → IsTrue (is_begun new to)
+  pub read_counts : SameCounts (read_faults old) (read_faults new)
   pub write_count : write_faults old ≤ write_faults new

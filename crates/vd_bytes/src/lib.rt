@@ -2,6 +2,7 @@
 #![tactic(auto)]
 
 pub mod answers;
+pub mod begun;
 mod calls;
 pub mod channels;
 mod folder;
@@ -17,6 +18,7 @@ pub mod tray;
 pub mod writing;
 
 pub use answers::{Limit, PassEnd, Refusal, Refused};
+pub use begun::BegunChannels;
 pub use channels::{Channel, Failed, WriteFault};
 pub use memory_tray::MemoryTray;
 pub use places::Place;

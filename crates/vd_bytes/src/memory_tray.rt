@@ -1,12 +1,14 @@
 //! A tray in memory that keeps what is written, and on which chosen calls fail.
 
-ghost use Rattle.std.specs.Prelude.{◌≡◌, ◌+◌, ◌<◌, ◌≤◌, ◌↔◌, ◌⊎◌, ℕ, List, [], Some, length, take, min, max, is_some, unwrap_or, IfOk, IfSome, IsErr, IsSome, OnOk, OnErr, IsFalse, vec_len};
+ghost use Rattle.std.specs.Prelude.{◌≡◌, ◌+◌, ◌<◌, ◌≤◌, ◌↔◌, ◌⊎◌, ℕ, List, [], Some, false, length, take, min, max, is_some, unwrap_or, IfOk, IfSome, IsErr, IsSome, OnOk, OnErr, IsFalse, vec_len};
 ghost use Rattle.vd_bytes.specs.Trays.{has_file, TakesFront, Rose, after_fault};
+ghost use Rattle.vd_bytes.specs.Begun.{has_begun, after_begin};
 ghost use Rattle.vd_bytes.specs.Calls.{before_calls, after_call, IsDue};
 ghost use Rattle.vd_bytes.specs.declared.channels.Channel.{Channel};
 ghost use Rattle.vd_bytes.specs.Folder.{paired, after_open, after_close, after_taking};
 ghost use Rattle.vd_bytes.specs.Outs.{out_of, after_append};
 
+use crate::begun::BegunChannels;
 use crate::calls::Calls;
 use crate::channels::{Channel, Failed};
 use crate::folder::Folder;
@@ -22,6 +24,7 @@ use std::marker::Model;
 pub struct MemoryTray {
     folder: Folder,
     outs: Outs,
+    begun: BegunChannels,
     opens: Calls,
     reads: Calls,
     writes: Calls,
@@ -38,6 +41,7 @@ impl Model for MemoryTray {
     ghost view = { λ a. record {
       files = a.folder;
       out = a.outs;
+      begun = a.begun;
       opens = a.opens;
       reads = a.reads;
       writes = a.writes;
@@ -64,6 +68,8 @@ impl MemoryTray {
         ensures none_open { IfOk result (λ tray. IsFalse (⟦<MemoryTray as Tray>⟧.is_open tray)) }
         ensures nothing_written { IfOk result (λ tray.
             (to : Channel) → ⟦<MemoryTray as Tray>⟧.written tray to ≡ Some []) }
+        ensures nothing_begun { IfOk result (λ tray.
+            (to : Channel) → ⟦<MemoryTray as Tray>⟧.is_begun tray to ≡ false) }
         ensures no_read_fault { IfOk result (λ tray.
             (name : List ℕ) → ⟦<MemoryTray as Tray>⟧.read_faults tray name ≡ 0) }
         ensures no_write_fault { IfOk result (λ tray.
@@ -78,6 +84,7 @@ impl MemoryTray {
         Ok(MemoryTray {
             folder,
             outs: Outs::new(alloc),
+            begun: BegunChannels::none(),
             opens: Calls::new(opens),
             reads: Calls::new(reads),
             writes: Calls::new(writes),
@@ -92,6 +99,13 @@ impl MemoryTray {
         ensures { ⟦<MemoryTray as Tray>⟧.written self.now to ≡ Some result.now }
     {
         self.outs.get(to)
+    }
+
+    /// Whether a piece was written on a channel, perhaps an empty one.
+    pub fn is_begun(&self, to: Channel) -> bool
+        ensures { result ≡ ⟦<MemoryTray as Tray>⟧.is_begun self.now to }
+    {
+        self.begun.has(to)
     }
 
     /// From now on a call of `read` or of `write` takes at most that many bytes, and at least 1.
@@ -112,6 +126,8 @@ impl Tray for MemoryTray {
     ghost rest = { λ tray. tray.files.left };
 
     ghost written = { λ tray to. Some (out_of tray.out to) };
+
+    ghost is_begun = { λ tray. has_begun tray.begun };
 
     ghost read_faults = { λ tray _. tray.read_faults };
 
@@ -173,6 +189,7 @@ impl Tray for MemoryTray {
         ensures count { IfOk result (λ k. k ≡ min (length piece.now) (max self.old.most 1)) }
         ensures ok { IfOk result (λ k. self.new ≡ record self.old {
           out = after_append self.old.out to (take k piece.now);
+          begun = after_begin self.old.begun to;
           writes = after_call self.old.writes;
         }) }
         ensures err { OnErr result (self.new ≡ record self.old {
@@ -187,6 +204,7 @@ impl Tray for MemoryTray {
             self.write_faults = self.write_faults.saturating_add(1);
             return Err(Failed);
         }
+        self.begun.begin(to);
         Ok(k)
     }
 }

@@ -1,8 +1,8 @@
 //! Reading a whole file.
 
-ghost use Rattle.std.specs.Prelude.{◌≡◌, ◌<◌, ◌≤◌, length, IfOk, IfSome, IsTrue, vec_len};
+ghost use Rattle.std.specs.Prelude.{◌≡◌, ◌≢◌, ◌<◌, ◌≤◌, length, IfOk, IfSome, IsTrue, vec_len};
 ghost use Rattle.vd_bytes.specs.declared.reading.ReadEnd.TheVariants.{ReadFault, Memory};
-ghost use Rattle.vd_bytes.specs.Trays.{content_of, Rose, RoseAt, OnlyReads};
+ghost use Rattle.vd_bytes.specs.Trays.{content_of, Rose, RoseAt, SameCounts, OnlyReads};
 
 use crate::channels::Failed;
 use crate::tray::Tray;
@@ -42,7 +42,8 @@ impl From<Failed> for ReadEnd {
 /// How many bytes are read at once.
 const PIECE: usize = 65536;
 
-/// The bytes of the file of that name, if there are at most `left`.
+/// The bytes of the file of that name, if there are at most `left`. Every answer but the read fault comes
+/// only where no fault came.
 pub fn read_all<T: Tray>(
     alloc: Global,
     tray: &mut T,
@@ -58,12 +59,17 @@ pub fn read_all<T: Tray>(
     ensures fault { result ≡ Err ReadEnd.ReadFault
         → Rose (T.read_faults tray.old name.now) (T.read_faults tray.new name.now) }
 
-    ensures only_reads { OnlyReads T.files T.written T.read_faults T.write_faults
+    ensures no_fault { result ≢ Err ReadEnd.ReadFault
+        → SameCounts (T.read_faults tray.old) (T.read_faults tray.new) }
+
+    ensures only_reads { OnlyReads T.files T.written T.is_begun T.read_faults T.write_faults
         tray.old tray.new }
 {
     let mut piece = vec![in alloc; 0u8; PIECE]?;
-    tray.open_file(name)?;
-    read_rest(alloc, tray, &mut piece, left)
+    match tray.open_file(name) {
+        Ok(()) => read_rest(alloc, tray, &mut piece, left),
+        Err(_) => Err(ReadEnd::ReadFault),
+    }
 }
 
 /// What is left of the open file, if that is at most `left` bytes. It is read through the buffer.
@@ -83,7 +89,10 @@ fn read_rest<T: Tray>(
     ensures fault { result ≡ Err ReadEnd.ReadFault
         → RoseAt (T.open_name tray.old) (T.read_faults tray.old) (T.read_faults tray.new) }
 
-    ensures only_reads { OnlyReads T.files T.written T.read_faults T.write_faults
+    ensures no_fault { result ≢ Err ReadEnd.ReadFault
+        → SameCounts (T.read_faults tray.old) (T.read_faults tray.new) }
+
+    ensures only_reads { OnlyReads T.files T.written T.is_begun T.read_faults T.write_faults
         tray.old tray.new }
 {
     let mut bytes = Vec::new(alloc);

@@ -95,6 +95,8 @@ fn a_text_is_written_whole_or_up_to_a_fault(rt: HostRuntime) -> Result<(), Fail>
     assert_eq!(rt; tray.out(Channel::Design), b"library ieee;".as_slice());
     assert_eq!(rt; tray.out(Channel::Map), b"".as_slice());
     assert_eq!(rt; tray.out(Channel::Console), b"done".as_slice());
+    let begun = [Channel::Design, Channel::Map, Channel::Console].map(|to| tray.is_begun(to));
+    assert_eq!(rt; begun, [true, false, true]);
     Ok(())
 }
 

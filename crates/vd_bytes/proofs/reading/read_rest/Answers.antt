@@ -1,6 +1,6 @@
 use Rattle.std.proofs.Common.{◌≡◌, ◌<◌, List, ℕ, length, vec_len, take, ◌++◌, Ok, refl, ap, ◌∙◌, arith}
 use Rattle.std.proofs.lemmas.Option.{IfSome_then}
-use Rattle.vd_bytes.proofs.TrayLemmas.{OnlyReads-refl, OnlyReads-trans, RoseAt-later}
+use Rattle.vd_bytes.proofs.TrayLemmas.{OnlyReads-refl, OnlyReads-trans, RoseAt-later, SameCounts-trans}
 use Rattle.vd_bytes.proofs.ReadSteps.{IsReadUpTo, IsReadUpTo-start, IsReadUpTo-more, IsReadUpTo-long, IsReadUpTo-end, length-more}
 use Rattle.vd_bytes.proofs.reading.read_rest.Goals as goal
 
@@ -10,6 +10,7 @@ pieces-init g c = record {
   name = refl;
   short = omega (arith, c.new-bytes.ensures.len);
   so_far = IsReadUpTo-start _ _ c.new-bytes.ensures.items;
+  no_fault = λ _. refl;
   only_reads = OnlyReads-refl _;
 }
 
@@ -47,6 +48,7 @@ pieces-preserved g c = record {
       let P : List ℕ → Type 0 = λ told. IsReadUpTo told c.extend_from_slice.new.self.items (g.T.Tray.rest c.read.new.self) in
       IfSome_then _ {Q = P} c.pieces.invariant.so_far
       (λ told so_far. rw c.in_ok-extend_from_slice.ensures.items (IsReadUpTo-more told _ _ c.in_ok-n.n _ _ so_far _ c.in_ok-n.ensures.taken c.in_ok-n.ensures.left));
+  no_fault = SameCounts-trans _ _ _ c.pieces.invariant.no_fault c.in_ok-n.ensures.no_fault;
   only_reads = OnlyReads-trans c.pieces.invariant.only_reads c.read.ensures.only_reads;
 }
 

@@ -1,4 +1,4 @@
-use Rattle.std.proofs.Common.{◌+◌, arith}
+use Rattle.std.proofs.Common.{◌+◌, ◌∙◌, arith}
 use Rattle.std.proofs.lemmas.List.{take_rest}
 use Rattle.vd_bytes.proofs.TrayLemmas.{Appends-more, OnlyWrites-trans}
 use Rattle.vd_bytes.proofs.writing.write_all.Goals as goal
@@ -18,5 +18,6 @@ pieces-preserved g c = record {
   appended =
       let piece = rw (take_rest c.args.bytes.now c.pieces.done) at c.in_ok-done.ensures.appended in
       Appends-more _ _ _ c.args.bytes.now c.pieces.done c.in_ok-done.field-0 c.pieces.invariant.appended piece;
+  no_fault = c.in_ok-done.ensures.no_fault ∙ c.pieces.invariant.no_fault;
   only_writes = OnlyWrites-trans c.pieces.invariant.only_writes c.in_ok-done.ensures.only_writes;
 }
