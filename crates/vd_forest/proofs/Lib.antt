@@ -1,4 +1,5 @@
 mod BuiltLemmas
+mod CopyLemmas
 pub mod ForestLemmas
 pub mod StoreLemmas
 pub mod TextLemmas

@@ -59,6 +59,14 @@ impl<'a, F: Copy + Drop> Cursor<'a, F> {
         }
     }
 
+    /// The store of this forest, and its number there.
+    pub fn stands(&self) -> (&'a Store<F>, u32)
+        ensures within { result.1 ≤ length result.0.now }
+        ensures is { at result.0.now result.1 ≡ self.now }
+    {
+        (self.store, self.number)
+    }
+
     /// The first tree, or `None` of the empty forest.
     pub fn open(&self) -> Option<Opened<'a, F>>
         ensures { MatchOption result (self.now ≡ nothing) (λ first.

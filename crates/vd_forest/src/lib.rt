@@ -1,6 +1,7 @@
 //! Trees as flat nodes in one store, which contracts see as pure forests.
 #![tactic(auto)]
 
+mod copying;
 pub mod cursor;
 mod numbers;
 pub mod store;
@@ -9,5 +10,5 @@ mod tests;
 pub mod texts;
 
 pub use cursor::{Cursor, Opened};
-pub use store::Store;
+pub use store::{Head, Store};
 pub use texts::Texts;

@@ -1,6 +1,6 @@
 //! The store of nodes, and what makes forests in it.
 
-ghost use Rattle.std.specs.Prelude.{◌≡◌, ◌<◌, ◌≤◌, [], IfOk, MatchOption, length};
+ghost use Rattle.std.specs.Prelude.{◌≡◌, ◌<◌, ◌≤◌, [], IfOk, IfSome, MatchOption, length};
 ghost use Rattle.vd_forest.specs.Forest.{nothing, more, next_of, turned, with_next};
 ghost use Rattle.vd_forest.specs.Store.{at, Holds, Extends};
 
@@ -126,31 +126,14 @@ impl<F: Copy + Drop> Store<F> {
         Ok(made)
     }
 
-    /// The trees after the first one of a forest that has one.
-    fn after(&self, number: u32) -> u32
+    /// The trees after the first one of a forest that has one. Their number is smaller.
+    pub fn after(&self, number: u32) -> u32
         requires number_in { number ≤ length self.now }
         requires some { 0 < number }
         ensures older { result < number }
         ensures next { at self.now result ≡ next_of (at self.now number) }
     {
         self.nodes[number as usize - 1].next
-    }
-
-    /// The forest of a cursor, in this store. Nesting takes stack, and a list of trees takes none.
-    #[tactic(auto, using(crate::proofs::StoreLemmas::turned_added, crate::proofs::StoreLemmas::growing))]
-    pub fn copy(&mut self, from: &Cursor<'_, F>) -> Result<u32, AllocError>
-        ensures holds { IfOk result (λ number. Holds self.new number from.now) }
-        ensures extends { Extends self.old self.new }
-    {
-        let mut left = from.fork();
-        let mut made = 0;
-        while let Some(first) = left.open() {
-            let parts = self.copy(&first.parts)?;
-            made = self.add(first.form, first.text, first.place, parts, made)?;
-            left = first.next;
-        }
-        let number = self.turn(made, 0)?;
-        Ok(number)
     }
 
     /// A cursor over a forest.
@@ -162,33 +145,53 @@ impl<F: Copy + Drop> Store<F> {
     }
 
     /// The first tree of a forest, with the numbers of its parts and of the trees after it.
-    pub(crate) fn head(&self, number: u32) -> Option<Head<'_, F>>
+    pub fn head(&self, number: u32) -> Option<Head<'_, F>>
         requires { number ≤ length self.now }
-        ensures { MatchOption result (at self.now number ≡ nothing) (λ head.
-            (at self.now number ≡ more head.form head.text.now head.place (at self.now head.parts) (at self.now head.next))
-            × (head.parts ≤ length self.now) × (head.next ≤ length self.now)) }
+        ensures empty { result ≡ None → number ≡ 0 }
+        ensures is { MatchOption result (at self.now number ≡ nothing) (λ head.
+            at self.now number ≡ more head.form head.text.now head.place (at self.now head.parts) (at self.now head.next)) }
+        ensures older { IfSome result (λ head. (head.parts < number) × (head.next < number)) }
     {
         if number == 0 {
             return None;
         }
+        let head = self.node(number);
+        Some(head)
+    }
+
+    /// The first tree of a forest that has one, with the numbers of its parts and of the trees
+    /// after it, which are smaller.
+    pub fn node(&self, number: u32) -> Head<'_, F>
+        requires number_in { number ≤ length self.now }
+        requires some { 0 < number }
+        ensures is { at self.now number ≡
+            more result.form result.text.now result.place (at self.now result.parts) (at self.now result.next) }
+        ensures parts_older { result.parts < number }
+        ensures next_older { result.next < number }
+    {
         let node = self.nodes[number as usize - 1];
         let text = self.texts.get(node.text);
-        Some(Head {
+        Head {
             form: node.form,
             text,
             place: node.place,
             parts: node.parts,
             next: node.next,
-        })
+        }
+    }
+
+    /// Where the store takes its memory.
+    pub(crate) fn alloc(&self) -> Global {
+        self.texts.alloc()
     }
 }
 
-/// A node, with its text.
+/// A first tree, with the numbers of its parts and of the trees after it.
 #[derive(Drop)]
-pub(crate) struct Head<'a, F: Copy + Drop> {
-    pub(crate) form: F,
-    pub(crate) text: &'a [u8],
-    pub(crate) place: Place,
-    pub(crate) parts: u32,
-    pub(crate) next: u32,
+pub struct Head<'a, F: Copy + Drop> {
+    pub form: F,
+    pub text: &'a [u8],
+    pub place: Place,
+    pub parts: u32,
+    pub next: u32,
 }
