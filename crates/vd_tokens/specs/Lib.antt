@@ -1,0 +1,4 @@
+pub mod Cells
+pub mod Lexemes
+pub mod Marks
+pub mod Spellings
