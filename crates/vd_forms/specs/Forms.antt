@@ -233,8 +233,8 @@ abbrev pub unlabelled_sequential : List Form
 unlabelled_sequential =
     form.SignalAssignment ∷ form.VariableAssignment ∷ form.IfStatement ∷ form.CaseStatement ∷ form.ForLoop ∷
     form.WhileLoop ∷ form.LoopStatement ∷ form.WaitStatement ∷ form.ReportStatement ∷ form.ReturnStatement ∷
-    form.NextStatement ∷ form.ExitStatement ∷ form.NullStatement ∷ form.SelectedSignalAssignment ∷
-    form.SelectedVariableAssignment ∷ form.AssertStatement ∷ []
+    form.NextStatement ∷ form.ExitStatement ∷ form.NullStatement ∷ form.SelectedVariableAssignment ∷ form.AssertStatement
+    ∷ []
 
 -- and those with a label
 abbrev pub sequential_statements : List Form

@@ -18,7 +18,7 @@ use Rattle.vd_gram.proofs.AdvanceLemmas.{next_ahead, inside}
 use Rattle.vd_gram.proofs.ChoiceLemmas.{IsNoneBelow, none_yet, chosen_here, no_sign, none_at_all}
 use Rattle.vd_gram.proofs.EndingLemmas.{shallow_start, shallow_more, too_deep as deep_nodes, too_deep_end, refused_empty, refused_terminal, refused_nonterminal, refused_after, parsed}
 use Rattle.vd_gram.proofs.ReadingLemmas.{expand, took, looked, started}
-use Rattle.vd_gram.proofs.SignLemmas.{Checks, checks}
+use Rattle.vd_gram.proofs.SignLemmas.{checks}
 use Rattle.vd_gram.proofs.StackLemmas.{symbols-at_depth}
 use Rattle.vd_gram.proofs.WeightLemmas.{weight, lighter}
 
@@ -34,11 +34,14 @@ module _ (t : Table) (nonterminal sign : ℕ) where
   looked_at : (i : ℕ) (b : Bool) → i < length t.productions.now → tells t nonterminal sign (get_or t.productions.now i no_production) ≡ b
       → IsNoneBelow t nonterminal sign i → Found (i + 1)
   looked_at i true within told so_far =
-      inl (i, chosen_here t nonterminal sign i (get_or t.productions.now i no_production) within
-        (get_or_default t.productions.now i no_production (get_or t.productions.now i no_production) within) told)
+      inl (
+        i,
+        chosen_here t nonterminal sign i (get_or t.productions.now i no_production) within
+            (get_or_default t.productions.now i no_production (get_or t.productions.now i no_production) within) told,
+      )
   looked_at i false within untold so_far =
       inr (no_sign t nonterminal sign i (get_or t.productions.now i no_production) within
-        (get_or_default t.productions.now i no_production (get_or t.productions.now i no_production) within) untold so_far)
+      (get_or_default t.productions.now i no_production (get_or t.productions.now i no_production) within) untold so_far)
 
   found : (i : ℕ) → i ≤ length t.productions.now → Found i
   found zero within = inr (none_yet t nonterminal sign)

@@ -1,12 +1,11 @@
 -- What the steps of a reader do.
-use Rattle.std.specs.Prelude.{ℕ, ◌+◌, ◌≤◌, ◌≡◌, max, List, [], ◌∷◌, ◌++◌, length, Some, slice_get, slice_index_or, if◌then◌else◌}
+use Rattle.std.specs.Prelude.{ℕ, ◌+◌, ◌≤◌, ◌≡◌, max, List, ◌++◌, length, Some, slice_get, slice_index_or, if◌then◌else◌}
 use Rattle.vd_gram.specs.declared.tables.Production.{Production}
 use Rattle.vd_gram.specs.declared.tables.Table.{Table}
 use Rattle.vd_gram.specs.declared.tables.ParseEnd.{ParseEnd}
 use Rattle.vd_gram.specs.declared.tables.ParseEnd.TheVariants.{At, TooDeep, Memory}
 use Rattle.vd_gram.specs.declared.stack.Pending.{Pending}
 use Rattle.vd_gram.specs.declared.steps.Step.{Step}
-use Rattle.vd_gram.specs.declared.steps.Step.TheVariants.{Leaf, Node}
 use Rattle.vd_gram.specs.declared.reading.Reading.{Reading}
 use Rattle.vd_gram.specs.Claims.{has, end_symbol}
 use Rattle.vd_gram.specs.Derivations.{Trees, with_end, IsParse, IsRefused, IsTooDeep}

@@ -59,6 +59,16 @@ pub struct CheckedTable<'a> {
     ghost checked: { IsTrue (is_checked table) },
 }
 
+impl<'a> CheckedTable<'a> {
+    /// A table whose claims are known to hold together, without a look at them.
+    pub fn of(table: Table<'a>) -> CheckedTable<'a>
+        requires { IsTrue (is_checked table) }
+        ensures { result.table ≡ table.entry }
+    {
+        CheckedTable { table }
+    }
+}
+
 /// Why a text has no derivation: no text goes on with the symbol at a place, the end being one; too
 /// many marked nodes stand above one another before such a place; or memory ran out.
 #[derive(Clone, Copy, Debug, PartialEq, Eq, Drop)]

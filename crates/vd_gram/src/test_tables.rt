@@ -151,7 +151,10 @@ pub(crate) const OPEN_END: Table<'static> = list_table!(
 
 pub(crate) const NO_CLAIM: Table<'static> = list_table!(LIST, &[ITEMS_CLAIM]);
 
-pub(crate) const TWO_CLAIMS: Table<'static> = list_table!(LIST, &[ITEMS_CLAIM, REST_CLAIM, REST_CLAIM]);
+pub(crate) const TWO_CLAIMS: Table<'static> = list_table!(
+    LIST,
+    &[ITEMS_CLAIM, REST_CLAIM, REST_CLAIM]
+);
 
 // Nothing is claimed of a nonterminal that is marked, or stands in a first or a follow set.
 const OTHER: Symbol = 5;

@@ -1,6 +1,5 @@
-use Rattle.std.proofs.Common.{◌<◌, ◌++◌, [], ◌∷◌, Some, None, sym, subst, ◌∙◌}
+use Rattle.std.proofs.Common.{◌<◌, ◌++◌, [], ◌∷◌, sym, subst, ◌∙◌}
 use Rattle.std.specs.Prelude.{MatchOption}
-use Rattle.vd_gram.specs.declared.reading.Expansion.{Expansion}
 use Rattle.vd_gram.specs.declared.steps.Step.TheVariants.{Node}
 use Rattle.vd_gram.specs.Pending.{symbols_of}
 use Rattle.vd_gram.specs.Runs.{IsNoChoice}

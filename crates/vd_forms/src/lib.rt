@@ -1,0 +1,10 @@
+//! The syntax trees of both revisions: the forms of nodes, which trees are valid, and designs.
+#![tactic(auto)]
+
+//mod designs;
+pub mod form;
+mod form_tests;
+
+//pub use designs::{Design19, Design93};
+pub use form::Form;
+pub use form_tests::is_expression;
