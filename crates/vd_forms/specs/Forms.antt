@@ -1,5 +1,5 @@
 -- Forms by number, in the order of their declaration, and lists of forms.
-use Rattle.std.specs.Prelude.{ℕ, Bool, true, false, ◌==◌, List, [], ◌∷◌}
+use Rattle.std.specs.Prelude.{ℕ, Bool, ◌&&◌, ◌||◌, not, ◌==◌, List, [], ◌∷◌}
 use Rattle.std.specs.List.{list_any}
 use Rattle.vd_forms.specs.declared.form.Form.{Form}
 use Rattle.vd_forms.specs.declared.form.Form.TheVariants as form
@@ -288,3 +288,21 @@ lists =
 abbrev pub leaves : List Form
 leaves =
     form.Identifier ∷ form.Letter ∷ form.Quoted ∷ form.Number ∷ form.Bits ∷ []
+
+-- all sequential statements, with a label and without
+abbrev pub all_sequential_statements : List Form
+all_sequential_statements =
+    form.SelectedSignalAssignment ∷ sequential_statements
+
+-- all concurrent statements, with a label and without
+abbrev pub all_concurrent_statements : List Form
+all_concurrent_statements =
+    form.LabelledConcurrent ∷ unlabelled_concurrent
+
+-- a node of the weight is neither a leaf nor a list
+abbrev pub is_weighed : Form → Bool
+is_weighed f = not (is_among leaves f) && not (is_among lists f)
+
+-- the grammar's depth is that of expressions and statements
+abbrev pub is_marked : Form → Bool
+is_marked f = is_among expressions f || (is_among all_sequential_statements f || is_among all_concurrent_statements f)
