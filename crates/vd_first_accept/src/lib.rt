@@ -8,5 +8,3 @@ mod unknown;
 pub use acceptance::{ConvertEnd, accept19, accept93, one_acceptance};
 pub use unknown::find_unknown;
 
-#[cfg(test)]
-mod tests_acceptance;

@@ -14,5 +14,3 @@ pub use selected::{Line, Lines, Selected};
 pub use spellings::spelling;
 pub use tokens::{Kind, Token};
 
-#[cfg(test)]
-mod tests_lexer;

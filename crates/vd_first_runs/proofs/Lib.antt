@@ -1,4 +1,3 @@
-pub mod CallerLemmas
 pub mod DesignLemmas
 pub mod RunLemmas
 pub mod ShapeLemmas

@@ -7,8 +7,6 @@ mod places;
 pub mod run;
 pub mod runs;
 mod shapes;
-#[cfg(test)]
-mod tests;
 pub mod tops;
 mod units;
 

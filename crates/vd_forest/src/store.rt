@@ -1,6 +1,6 @@
 //! The store of nodes, and what makes forests in it.
 
-ghost use Rattle.std.specs.Prelude.{◌≡◌, ◌<◌, ◌≤◌, [], IfOk, IfSome, MatchOption, length};
+ghost use Rattle.std.specs.Prelude.{◌≡◌, ◌<◌, ◌≤◌, [], IfOk, IfSome, OnErr, MatchOption, length};
 ghost use Rattle.vd_forest.specs.Forest.{nothing, more, next_of, turned, with_next};
 ghost use Rattle.vd_forest.specs.Store.{at, Holds, Extends};
 
@@ -75,6 +75,7 @@ impl<F: Copy + Drop> Store<F> {
         ensures holds { IfOk result (λ number. Holds self.new number
             (more form text.now place (at self.old parts) (at self.old next))) }
         ensures extends { Extends self.old self.new }
+        ensures unchanged { OnErr result (self.new ≡ self.old) }
     {
         let number = number_after(self.nodes.len())?;
         let text = self.texts.intern(text)?;
@@ -96,6 +97,7 @@ impl<F: Copy + Drop> Store<F> {
         ensures holds { IfOk result (λ made. Holds self.new made
             (with_next (at self.old number) (at self.old next))) }
         ensures extends { Extends self.old self.new }
+        ensures unchanged { OnErr result (self.new ≡ self.old) }
     {
         if number == 0 {
             return Ok(next);

@@ -40,6 +40,13 @@ pub record IsMoment {P S : Type 0} (state : P → S) (stop : Option ProcessStop)
   pub view_is : view_of s.seen ≡ x.view
   pub round_is : IsRound stop s.net.drivers s.reports (map (paused state) s.processes) x.round
 
+-- The step that a simulation came to last is still the same.
+pub record StaysAt {P : Type 0} (old new : Simulating P) : Type 0 where
+  pub time_is : new.time ≡ old.time
+  pub delta_is : new.delta ≡ old.delta
+  pub seen_is : new.seen ≡ old.seen
+  pub reports_are : new.reports ≡ old.reports
+
 -- what has stopped a simulation with this end
 abbrev pub stop_in : Option SimulationEnd → Option ProcessStop
 stop_in None = None

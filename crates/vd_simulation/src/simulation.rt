@@ -1,6 +1,6 @@
 //! The simulation of a design, step by step.
 
-ghost use Rattle.std.specs.Prelude.{◌≡◌, ◌≢◌, ◌==◌, if◌then◌else◌, ℕ, ◌+◌, ◌^◌, ◌<◌, ◌≤◌, suc, List, [], length, map, IfOk, Ok, Err, Some, None};
+ghost use Rattle.std.specs.Prelude.{◌≡◌, ◌≢◌, ◌==◌, if◌then◌else◌, ℕ, ◌+◌, ◌^◌, ◌<◌, ◌≤◌, suc, List, [], length, map, IfOk, OnErr, Ok, Err, Some, None};
 ghost use Rattle.vd_kernel.specs.Models.{Shape as DesignShape};
 ghost use Rattle.vd_kernel.specs.Cycles.{next_time, initialised, cycle};
 ghost use Rattle.vd_kernel.specs.Traces.{with_two, trace, trace_from};
@@ -8,7 +8,7 @@ ghost use Rattle.vd_kernel.specs.Orders.{shape_of, IsRingFree};
 ghost use Rattle.vd_kernel.specs.SignalValues.{nothing_given};
 ghost use Rattle.vd_simulation.specs.Designs.{IsDesign, IsGiven};
 ghost use Rattle.vd_simulation.specs.TracedSteps.{from_step, IsTraceOn};
-ghost use Rattle.vd_simulation.specs.Simulations.{state_of, modelled, stop_in, end_of, IsMoment, HasStepped, IsNextStep};
+ghost use Rattle.vd_simulation.specs.Simulations.{state_of, modelled, stop_in, end_of, IsMoment, StaysAt, HasStepped, IsNextStep};
 
 use crate::ends::SimulationEnd;
 use crate::net::Net;
@@ -126,6 +126,7 @@ impl<P: Process + Drop> Simulation<P> {
         ensures end { self.new.end ≡ self.old.end }
         ensures step { IfOk result (λ stop. (m : DesignShape) → IsDesign m self.old.net.signals
             → IsMoment P.state stop self.new (cycle (modelled m P.step []) nothing_given (state_of P.state self.old) now)) }
+        ensures memory { OnErr result (StaysAt self.old self.new) }
     {
         self.net.update(now);
         let seen = next_seen(self.alloc, &self.net, now, &self.seen)?;
@@ -153,6 +154,7 @@ impl<P: Process + Drop> Simulation<P> {
         ensures delta { self.new.delta ≤ self.old.delta + 1 }
         ensures step { (m : DesignShape) → IsDesign m self.old.net.signals
             → HasStepped P.state self.new.end self.new (cycle (modelled m P.step []) nothing_given (state_of P.state self.old) now) }
+        ensures memory { self.new.end ≡ Some SimulationEnd.Memory → StaysAt self.old self.new }
     {
         match self.step(now) {
             Ok(None) => {}
@@ -178,6 +180,7 @@ impl<P: Process + Drop> Simulation<P> {
         ensures trace { self.old.end ≡ None → (m : DesignShape) (starts : List P.State) → IsDesign m self.old.net.signals → (n : ℕ)
             → let design = modelled m P.step starts in
             IsTraceOn P.state result self.new (trace_from design nothing_given n) (trace_from design nothing_given (suc n) (state_of P.state self.old)) }
+        ensures memory { result ≡ Err SimulationEnd.Memory → StaysAt self.old self.new }
     {
         if let Some(end) = self.end {
             return Err(end);

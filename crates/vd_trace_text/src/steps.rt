@@ -1,7 +1,7 @@
 //! The text of a trace, in the order of its steps. Each call writes behind what the text holds. Where memory runs out, the
-//! text may hold a first part of what was to be written.
+//! text stays as it was.
 
-ghost use Rattle.std.specs.Prelude.{◌≡◌, ◌++◌, ◌∷◌, [], ℕ, List, codes, OnOk};
+ghost use Rattle.std.specs.Prelude.{◌≡◌, ◌++◌, ◌∷◌, [], ℕ, List, codes, OnOk, OnErr};
 ghost use Rattle.std.specs.List.{flat_map};
 ghost use Rattle.std.specs.Fmt.{decimal};
 ghost use Rattle.vd_values.specs.declared.scalar.Scalar.{Scalar};
@@ -32,11 +32,14 @@ pub fn add_shown_step(
     earlier: &[Scalar],
     values: &[Scalar],
 ) -> Result<(), AllocError>
-    ensures { OnOk result (text.new.items ≡ text.old.items
+    ensures written { OnOk result (text.new.items ≡ text.old.items
         ++ step_lines paths.now (types_behind types.now) number earlier.now (shown_step time delta reports.now values.now)) }
+    ensures unchanged { OnErr result (text.new.items ≡ text.old.items) }
 {
-    add_start(text, number, time, delta, reports)?;
-    add_values(text, paths, types, earlier, values)
+    let mut step = Vec::new(*text.allocator());
+    add_start(&mut step, number, time, delta, reports)?;
+    add_values(&mut step, paths, types, earlier, values)?;
+    text.extend_from_slice(&step)
 }
 
 /// A step that stops. It shows no signals.
@@ -48,30 +51,38 @@ pub fn add_stopped_step(
     reports: &[Report],
     stop: &Stop,
 ) -> Result<(), AllocError>
-    ensures { OnOk result ((paths : List Path) (types : List ScalarType) (earlier : List Scalar) → text.new.items ≡ text.old.items
+    ensures written { OnOk result ((paths : List Path) (types : List ScalarType) (earlier : List Scalar) → text.new.items ≡ text.old.items
         ++ step_lines paths types number earlier (stopped_step time delta reports.now stop.now)) }
+    ensures unchanged { OnErr result (text.new.items ≡ text.old.items) }
 {
-    add_start(text, number, time, delta, reports)?;
-    add_stop_line(text, stop)
+    let mut step = Vec::new(*text.allocator());
+    add_start(&mut step, number, time, delta, reports)?;
+    add_stop_line(&mut step, stop)?;
+    text.extend_from_slice(&step)
 }
 
 /// The end of a trace that has no step, since the elaboration stopped.
 pub fn add_stop(text: &mut Vec<u8>, stop: &Stop) -> Result<(), AllocError>
-    ensures { OnOk result (text.new.items ≡ text.old.items ++ stop_line stop.now) }
+    ensures written { OnOk result (text.new.items ≡ text.old.items ++ stop_line stop.now) }
+    ensures unchanged { OnErr result (text.new.items ≡ text.old.items) }
 {
-    add_stop_line(text, stop)
+    let mut end = Vec::new(*text.allocator());
+    add_stop_line(&mut end, stop)?;
+    text.extend_from_slice(&end)
 }
 
 /// The end of a trace with all the cycles that were asked for.
 pub fn add_done(text: &mut Vec<u8>) -> Result<(), AllocError>
-    ensures { OnOk result (text.new.items ≡ text.old.items ++ end_text done) }
+    ensures written { OnOk result (text.new.items ≡ text.old.items ++ end_text done) }
+    ensures unchanged { OnErr result (text.new.items ≡ text.old.items) }
 {
     text.extend_from_slice(b"done\n")
 }
 
 /// The end of a trace behind whose last step nothing was left to come.
 pub fn add_quiet(text: &mut Vec<u8>) -> Result<(), AllocError>
-    ensures { OnOk result (text.new.items ≡ text.old.items ++ end_text quiet) }
+    ensures written { OnOk result (text.new.items ≡ text.old.items ++ end_text quiet) }
+    ensures unchanged { OnErr result (text.new.items ≡ text.old.items) }
 {
     text.extend_from_slice(b"quiet\n")
 }
@@ -84,7 +95,7 @@ fn add_start(
     delta: u32,
     reports: &[Report],
 ) -> Result<(), AllocError>
-    ensures { OnOk result (text.new.items ≡ text.old.items
+    ensures written { OnOk result (text.new.items ≡ text.old.items
         ++ (line (codes "cycle" ∷ decimal number ∷ decimal time ∷ decimal delta ∷ []) ++ flat_map (report_line time delta) reports.now)) }
 {
     let alloc = *text.allocator();

@@ -25,7 +25,7 @@ returns-in_ok-add_quiet-in-Ok-Quiet-clause-cycle c = λ e cycles left same p.
     let new = c.cycle.new.self in
     let before = c.args.transcript.now in
     let answers = subst (λ r. AnswersCycle e (cycle e.model nothing_given p.state) (next_time p.state) (Ok r) new) c.in-Ok-Quiet.field-0-is (c.in-Ok-Quiet.ensures.step c.requires.going e p.state p.is_at) in
-    quiet_end e cycles c.args.run.now new before.text.items c.args.number left before.values.items p c.add_quiet.new.text.items c.in_ok-add_quiet-in-Ok-Quiet.ensures answers
+    quiet_end e cycles c.args.run.now new before.text.items c.args.number left before.values.items p c.add_quiet.new.text.items c.in_ok-add_quiet-in-Ok-Quiet.ensures.written answers
 
 pub returns-in_ok-add_stopped_step-in-Err-Stop-clause-cycle : goal.returns-in_ok-add_stopped_step-in-Err-Stop-clause-cycle
 returns-in_ok-add_stopped_step-in-Err-Stop-clause-cycle c = λ e cycles left same p.
@@ -35,5 +35,5 @@ returns-in_ok-add_stopped_step-in-Err-Stop-clause-cycle c = λ e cycles left sam
     let after = c.add_stopped_step.new.text.items in
     let lines = λ (s : Stop). step_lines (paths_of e) (types_of e) c.args.number before.values.items (stopped_step new.simulation.time new.simulation.delta new.simulation.reports s) in
     let text = subst (λ (s : Stop). after ≡ before.text.items ++ lines s) c.in-Err-Stop.stop-is
-    (rw (← c.time.ensures, ← c.delta.ensures, ← c.reports.ensures) (c.in_ok-add_stopped_step-in-Err-Stop.ensures (paths_of e) (types_of e) before.values.items)) in
+    (rw (← c.time.ensures, ← c.delta.ensures, ← c.reports.ensures) (c.in_ok-add_stopped_step-in-Err-Stop.ensures.written (paths_of e) (types_of e) before.values.items)) in
     stop_end e cycles c.args.run.now new before.text.items c.args.number left before.values.items p c.in-Err-Stop.stop after text answers
