@@ -1,6 +1,6 @@
 //! The derivation of a text, or why it has none.
 
-ghost use Rattle.std.specs.Prelude.{◌≡◌, [], IfOk, MatchResult};
+ghost use Rattle.std.specs.Prelude.{◌≡◌, [], IfOk, OnOk, MatchResult};
 ghost use Rattle.vd_gram.specs.Derivations.{IsParse};
 ghost use Rattle.vd_gram.specs.Readings.{Stands, IsTold, IsEnd};
 
@@ -43,7 +43,8 @@ pub fn tell<B: Builder>(
     builder: &mut B,
 ) -> Result<(), ParseEnd>
     requires new { B.HasTaken builder.old [] }
-    ensures { MatchResult result (λ _. IsTold B.HasTaken builder.new table.now.table symbols.now deep)
+    ensures kept { OnOk result (B.tables builder.new ≡ B.tables builder.old) }
+    ensures answer { MatchResult result (λ _. IsTold B.HasTaken builder.new table.now.table symbols.now deep)
         (λ end. IsEnd table.now.table symbols.now deep end) }
 {
     let mut reading = start(alloc, table, symbols, deep)?;
@@ -61,6 +62,10 @@ struct Gathered {
 }
 
 impl Builder for Gathered {
+    ghost Tables = { Unit {0} };
+
+    ghost tables = { λ _. tt };
+
     ghost HasTaken = { λ gathered steps. gathered.steps.items ≡ steps };
 
     fn node(&mut self, production: u32, parts: u32) -> Result<(), AllocError> {

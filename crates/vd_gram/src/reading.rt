@@ -117,7 +117,8 @@ impl Reading {
         builder: &mut B,
     ) -> Result<bool, ParseEnd>
         requires { IsStanding B.HasTaken builder.old checked.now.table symbols.now deep place self.old }
-        ensures { MatchResult result
+        ensures kept { OnOk result (B.tables builder.new ≡ B.tables builder.old) }
+        ensures answer { MatchResult result
             (λ more. MatchBool more (IsStanding B.HasTaken builder.new checked.now.table symbols.now deep (place + 1) self.new)
             (IsTold B.HasTaken builder.new checked.now.table symbols.now deep))
             (λ end. IsEnd checked.now.table symbols.now deep end) }
@@ -148,7 +149,8 @@ impl Reading {
     ) -> Result<bool, ParseEnd>
         requires looking { IsLooking B.HasTaken builder.old checked.now.table symbols.now deep place (next ∷ self.old.stack) self.old }
         requires terminal { is_terminal checked.now.table next.symbol ≡ true }
-        ensures { MatchResult result
+        ensures kept { OnOk result (B.tables builder.new ≡ B.tables builder.old) }
+        ensures answer { MatchResult result
             (λ more. MatchBool more (IsStanding B.HasTaken builder.new checked.now.table symbols.now deep (place + 1) self.new)
             (IsTold B.HasTaken builder.new checked.now.table symbols.now deep))
             (λ end. IsEnd checked.now.table symbols.now deep end) }

@@ -15,15 +15,23 @@ pub enum Step {
 }
 
 /// What is told the steps of a derivation while a text is read, one after the other. After an
-/// error it is told nothing more.
+/// error it is told nothing more. Its tables are what it stands on and keeps.
 pub trait Builder {
+    ghost Tables: { Type 0 };
+
+    ghost tables: { Self → Tables };
+
     ghost HasTaken: { Self → List Step → Type 0 };
 
     /// Takes a node, which stands in front of its parts.
     fn node(&mut self, production: u32, parts: u32) -> Result<(), AllocError>
-        ensures { OnOk result ((steps : List Step) → HasTaken self.old steps → HasTaken self.new (steps ++ Step.Node production parts ∷ [])) };
+        requires { (steps : List Step) × HasTaken self.old steps }
+        ensures told { OnOk result ((steps : List Step) → HasTaken self.old steps → HasTaken self.new (steps ++ Step.Node production parts ∷ [])) }
+        ensures kept { OnOk result (tables self.new ≡ tables self.old) };
 
     /// Takes a leaf.
     fn leaf(&mut self, symbol: Symbol, place: u32) -> Result<(), AllocError>
-        ensures { OnOk result ((steps : List Step) → HasTaken self.old steps → HasTaken self.new (steps ++ Step.Leaf symbol place ∷ [])) };
+        requires { (steps : List Step) × HasTaken self.old steps }
+        ensures told { OnOk result ((steps : List Step) → HasTaken self.old steps → HasTaken self.new (steps ++ Step.Leaf symbol place ∷ [])) }
+        ensures kept { OnOk result (tables self.new ≡ tables self.old) };
 }

@@ -67,6 +67,13 @@ impl<'a> CheckedTable<'a> {
     {
         CheckedTable { table }
     }
+
+    /// The table.
+    pub fn table(&self) -> Table<'a>
+        ensures { result ≡ self.now.table }
+    {
+        self.table
+    }
 }
 
 /// Why a text has no derivation: no text goes on with the symbol at a place, the end being one; too

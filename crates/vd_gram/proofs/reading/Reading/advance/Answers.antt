@@ -1,4 +1,4 @@
-use Rattle.std.proofs.Common.{◌<◌, ◌++◌, [], ◌∷◌, sym, subst, ◌∙◌}
+use Rattle.std.proofs.Common.{◌<◌, ◌++◌, [], ◌∷◌, refl, sym, subst, ◌∙◌}
 use Rattle.std.specs.Prelude.{MatchOption}
 use Rattle.vd_gram.specs.declared.steps.Step.TheVariants.{Node}
 use Rattle.vd_gram.specs.Pending.{symbols_of}
@@ -12,16 +12,16 @@ use Rattle.vd_gram.proofs.reading.Reading.advance.Given.{Over}
 pub loop-next-init : goal.loop-next-init
 loop-next-init g c =
     let s = c.requires in
-    record {
+    record { kept = refl; looking = record {
       steps = s.steps;
       taken = s.taken;
       ahead = ahead_from_stands c.args.checked.now.table c.args.checked.now.checked c.args.symbols.now c.args.deep c.args.place s.steps c.args.self.now s.stands;
-    }
+    } }
 
-pub returns-in-None : goal.returns-in-None
-returns-in-None g c =
+pub returns-in-None-clause-answer : goal.returns-in-None-clause-answer
+returns-in-None-clause-answer g c =
     let t = c.args.checked.now.table in
-    let i = c.loop-next.invariant in
+    let i = c.loop-next.invariant.looking in
     let before = record c.loop-next.self { stack = c.pop.new.self } in
     let ahead = ahead_popped t c.args.checked.now.checked c.args.symbols.now c.args.deep c.args.place c.in-Some.next c.pop.new.self i.steps c.loop-next.self c.in-Some.ensures i.ahead in
     let none : IsNoChoice t c.in-Some.next.symbol c.symbol_ahead-ahead.result =
@@ -43,15 +43,18 @@ loop-next-smaller g c =
 pub loop-next-preserved : goal.loop-next-preserved
 loop-next-preserved g c =
     let t = c.args.checked.now.table in
-    let i = c.loop-next.invariant in
+    let i = c.loop-next.invariant.looking in
     let made = c.in-Some-2.made in
     let before = record c.loop-next.self { stack = c.pop.new.self } in
     let ahead = ahead_popped t c.args.checked.now.checked c.args.symbols.now c.args.deep c.args.place c.in-Some.next c.pop.new.self i.steps c.loop-next.self c.in-Some.ensures i.ahead in
-    record {
+    record { kept = c.in_ok-node-in-Some-2.ensures.kept ∙ c.loop-next.invariant.kept; looking = record {
       steps = i.steps ++ Node made.production made.parts ∷ [];
-      taken = c.in_ok-node-in-Some-2.ensures i.steps i.taken;
+      taken = c.in_ok-node-in-Some-2.ensures.told i.steps i.taken;
       ahead =
           ahead_expanded t c.args.checked.now.checked c.args.symbols.now c.args.deep c.args.place made.production made.parts c.in-Some.next i.steps before c.expand.new.self
           (sym c.is_terminal.ensures ∙ c.if-is_terminal.false) ahead
           (subst (λ x. IsExpanded t x c.in-Some.next made.production made.parts before c.expand.new.self) c.symbol_ahead-ahead.ensures (expanded g c)) c.in_ok-expand.ensures.choices;
-    }
+    } }
+
+pub node-requires : goal.node-requires
+node-requires g c = (c.loop-next.invariant.looking.steps, c.loop-next.invariant.looking.taken)
