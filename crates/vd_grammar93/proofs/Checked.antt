@@ -44,3 +44,10 @@ checked given t a l = holds_listed (λ u. is_checked u ≡ true) lists spotted_i
 
 pub same : (given : Lists) (t : Table) → AreTheLists given → IsListed given t → IsSameGrammar t grammar
 same given t a l = same_grammar lists t (listed_so given t a l)
+
+-- the definition has these lists too
+listed_grammar : IsListed lists grammar
+listed_grammar = record { terminals = refl; start = refl; marked = refl; productions = refl; claims = refl }
+
+pub grammar_is_checked : IsTrue (is_checked grammar)
+grammar_is_checked = holds_listed (λ u. is_checked u ≡ true) lists spotted_is_checked grammar listed_grammar
