@@ -1,5 +1,5 @@
 -- Units of several designs, side by side.
-use Rattle.std.proofs.Common.{◌≡◌, ℕ, ◌+◌, ◌-◌, ◌<◌, ◌≤◌, Bool, true, false, ◌&&◌, List, [], ◌∷◌, ◌++◌, length, drop, get_or, refl, sym, ap, subst, ◌∙◌, arith}
+use Rattle.std.proofs.Common.{◌≡◌, ℕ, ◌+◌, ◌-◌, ◌<◌, ◌≤◌, Bool, true, false, List, [], ◌∷◌, length, drop, get_or, refl, sym, ap, subst, ◌∙◌, arith}
 use Rattle.std.proofs.lemmas.Bool.{and_parts, and_from}
 use Rattle.std.proofs.lemmas.List.{drop_more}
 use Rattle.vd_trees.specs.declared.revision.Revision.{Revision}
@@ -9,7 +9,7 @@ use Rattle.vd_forest.proofs.ForestLemmas.{turned_turned}
 use Rattle.vd_forest.proofs.StoreLemmas.{extends_trans}
 use Rattle.vd_forms.specs.declared.form.Form.{Form}
 use Rattle.vd_forms.specs.Forms.{is_among}
-use Rattle.vd_forms.specs.Slots.{Many, file_slots}
+use Rattle.vd_forms.specs.Slots.{Many}
 use Rattle.vd_forms.specs.Validity.{forms_of, fits, AreValid, IsDesign, all_joined}
 
 -- turned twice, a forest stands as it stood, in front of the other

@@ -7,4 +7,7 @@ mod form_tests;
 
 pub use designs::{Design19, Design93};
 pub use form::Form;
-pub use form_tests::{is_concurrent_statement, is_expression, is_leaf, is_list, is_marked, is_sequential_statement, is_weighed};
+pub use form_tests::{
+    is_concurrent_statement, is_expression, is_leaf, is_list, is_marked, is_sequential_statement,
+    is_weighed,
+};

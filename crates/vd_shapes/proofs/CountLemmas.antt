@@ -1,6 +1,5 @@
 -- Parts that are counted, in the code and by the machine.
-use Rattle.std.proofs.Common.{◌≡◌, ℕ, ◌+◌, ◌-◌, ◌<◌, ◌≤◌, List, [], ◌∷◌, ◌++◌, length, reverse, refl, sym, ap, subst, ◌∙◌, arith}
-use Rattle.std.specs.List.{AllByRecursion}
+use Rattle.std.proofs.Common.{◌≡◌, ◌≤◌, List, [], ◌∷◌, ◌++◌, reverse, refl, sym, ap, subst, ◌∙◌, arith}
 use Rattle.vd_tokens.specs.Lexemes.{Lexeme}
 use Rattle.vd_forest.specs.Forest.{Forest}
 use Rattle.vd_forms.specs.declared.form.Form.{Form}
@@ -8,9 +7,9 @@ use Rattle.vd_shapes.specs.declared.actions.Action.{Action}
 use Rattle.vd_shapes.specs.declared.growing.Frame.{Frame}
 use Rattle.vd_shapes.specs.declared.growing.Growing.{Growing}
 use Rattle.vd_shapes.specs.Machine.{Open, Machine, closed, counted}
-use Rattle.vd_shapes.specs.Standing.{StandsAt, PoppedAt, IsStanding, IsPopped, HasSameTables, AreFrames}
-use Rattle.vd_shapes.proofs.StandingLemmas.{HasInnermost, innermost, none_open, one_less, reverse_last}
-use Rattle.vd_shapes.proofs.MachineLemmas.{counted_ends, counted_waits}
+use Rattle.vd_shapes.specs.Standing.{StandsAt, PoppedAt, IsStanding, IsPopped, HasSameTables}
+use Rattle.vd_shapes.proofs.StandingLemmas.{innermost, reverse_last}
+use Rattle.vd_shapes.proofs.MachineLemmas.{counted_ends}
 
 -- what is still to be counted comes to what was to be counted
 pub record CountsTo (actions : List Action) (tokens : List Lexeme) (g : Growing) (m : Machine) : Type 0 where

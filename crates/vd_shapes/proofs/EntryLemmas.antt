@@ -1,5 +1,5 @@
 -- Entries and their trees.
-use Rattle.std.proofs.Common.{◌≡◌, ℕ, zero, suc, ◌+◌, ◌-◌, ◌<◌, ◌≤◌, Bool, true, false, not, ◌&&◌, List, [], ◌∷◌, ◌++◌, length, map, take, drop, get_or, refl, sym, ap, subst, ◌∙◌, arith, append_assoc, length-append, length-drop}
+use Rattle.std.proofs.Common.{◌≡◌, ℕ, zero, suc, ◌+◌, ◌<◌, ◌≤◌, Bool, true, false, not, ◌&&◌, List, [], ◌∷◌, ◌++◌, length, take, drop, get_or, refl, sym, ap, subst, ◌∙◌, arith, append_assoc, length-append, length-drop}
 use Rattle.std.specs.List.{AllByRecursion}
 use Rattle.std.proofs.lemmas.List.{drop_more, drop_all, take-append-drop}
 use Rattle.std.proofs.Math.Seq.{take-append_seam, drop-append_seam}
@@ -12,7 +12,7 @@ use Rattle.vd_forms.specs.declared.form.Form.{Form}
 use Rattle.vd_forms.specs.Forms.{is_among, expressions}
 use Rattle.vd_forms.specs.Validity.{is_bracketed, is_one_expression}
 use Rattle.vd_shapes.specs.declared.entries.Entry.{Entry}
-use Rattle.vd_shapes.specs.Shapes.{place_at, without_brackets, unbracketed, settled}
+use Rattle.vd_shapes.specs.Shapes.{place_at, without_brackets, settled}
 use Rattle.vd_shapes.specs.Standing.{Tree, planted, planted_all, tree_of, trees_of, IsEntryOf}
 
 -- ---- one entry
@@ -105,7 +105,7 @@ one_planted start mid new tokens keep es now rest e made made' within long is sp
     let more_one : length now ≡ length rest + 1 = ap length split ∙ length-append rest (e ∷ []) in
     let parts_same = x.keeps e.parts (last_within (length start) es rest e (length now) cut within) in
     let tree_is : without_brackets (not keep && is_bracketed e.form (at mid e.parts)) e.form (tree_of mid tokens e).text (place_at tokens e.first) (at mid e.parts) (at mid made)
-        ≡ settled keep (planted_all (trees_of start tokens (drop (length rest) es))) =
+    ≡ settled keep (planted_all (trees_of start tokens (drop (length rest) es))) =
     (λ i. without_brackets (not keep && is_bracketed e.form (parts_same i)) e.form (tree_of start tokens e).text (place_at tokens e.first) (parts_same i) (h.is i))
     ∙ (sym (settled_first keep (tree_of start tokens e) (planted_all (trees_of start tokens (drop (length now) es))))
     ∙ ap (λ l. settled keep (planted_all (trees_of start tokens l))) (sym (last_dropped es rest e (length now) cut))) in

@@ -1,9 +1,7 @@
 -- Open productions, and the trees among which they stand.
-use Rattle.std.proofs.Common.{◌≡◌, ℕ, zero, suc, ◌+◌, ◌-◌, ◌<◌, ◌≤◌, Bool, true, false, nat_le, List, [], ◌∷◌, ◌++◌, length, map, take, drop, get_or, reverse, Option, Some, None, refl, sym, ap, subst, ◌∙◌, arith, append_assoc, append-nil, length-append}
-use Rattle.std.specs.List.{AllByRecursion}
+use Rattle.std.proofs.Common.{◌≡◌, ℕ, ◌≤◌, Bool, true, false, List, [], ◌∷◌, ◌++◌, length, take, drop, reverse, refl, sym, ap, subst, ◌∙◌, arith, append_assoc, append-nil, length-append}
 use Rattle.std.proofs.lemmas.List.{reverse-append, reverse-reverse}
 use Rattle.std.proofs.Math.Seq.{take-append_seam, drop-append_seam}
-use Rattle.vd_bytes.specs.declared.places.Place.{Place}
 use Rattle.vd_tokens.specs.Lexemes.{Lexeme}
 use Rattle.vd_forest.specs.Forest.{Forest, nothing, more, joined, turned, reversed}
 use Rattle.vd_forms.specs.declared.form.Form.{Form}
@@ -11,8 +9,8 @@ use Rattle.vd_forms.specs.Validity.{keeps_brackets}
 use Rattle.vd_shapes.specs.declared.actions.Action.{Action}
 use Rattle.vd_shapes.specs.declared.actions.Action.TheVariants.{Splice, Make, Wrap, Group}
 use Rattle.vd_shapes.specs.declared.growing.Frame.{Frame}
-use Rattle.vd_shapes.specs.Shapes.{place_at, settled, with_node, start_of}
-use Rattle.vd_shapes.specs.Machine.{Open, Machine, closed, inner_start, begun_with, set_aside, opened}
+use Rattle.vd_shapes.specs.Shapes.{place_at, settled, with_node}
+use Rattle.vd_shapes.specs.Machine.{Open, closed, inner_start}
 use Rattle.vd_shapes.specs.Standing.{Tree, planted, planted_all, sets_aside, base_of, start_in, IsFrame, Inside, AreFrames}
 
 -- ---- lists of trees
@@ -97,10 +95,11 @@ frame_with f o fs os trees so_far e is base h =
 
 pub frame_apart : (f : Frame) (o : Open) (fs : List Frame) (os : List Open) (trees : List Tree) (so_far : Forest Form) → sets_aside f.action ≡ true → IsFrame f o
     → f.base ≡ length trees → o.outer ≡ so_far → AreFrames fs os trees so_far → AreFrames (f ∷ fs) (o ∷ os) trees nothing
-frame_apart f o fs os trees so_far e is base outer h =
-    (is,
-    subst (λ b. Inside b f.base (base_of fs) trees nothing o.outer (λ ts s. AreFrames fs os ts s)) (sym e)
-    (trees, [], sym (append-nil trees), base, refl, subst (AreFrames fs os trees) (sym outer) h))
+frame_apart f o fs os trees so_far e is base outer h = (
+  is,
+  subst (λ b. Inside b f.base (base_of fs) trees nothing o.outer (λ ts s. AreFrames fs os ts s)) (sym e)
+      (trees, [], sym (append-nil trees), base, refl, subst (AreFrames fs os trees) (sym outer) h),
+)
 
 -- ---- a production ends
 

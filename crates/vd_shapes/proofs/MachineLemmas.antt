@@ -1,17 +1,17 @@
 -- The machine makes the shape of a derivation.
-use Rattle.std.proofs.Common.{◌≡◌, ℕ, zero, suc, ◌+◌, ◌-◌, ◌<◌, ◌≤◌, Bool, true, false, nat_le, nat_eq, List, [], ◌∷◌, ◌++◌, ◌⊎◌, inl, inr, length, refl, sym, ap, subst, ◌∙◌, arith, append_assoc, length-append}
+use Rattle.std.proofs.Common.{◌≡◌, ℕ, ◌+◌, ◌-◌, ◌<◌, ◌≤◌, Bool, true, false, nat_le, nat_eq, List, [], ◌∷◌, ◌++◌, ◌⊎◌, inl, inr, length, refl, sym, ap, subst, ◌∙◌, arith, length-append}
 use Rattle.std.proofs.lemmas.Bool.{cases_lt, ne_eqb}
 use Rattle.vd_tokens.specs.Lexemes.{Lexeme}
 use Rattle.vd_gram.specs.declared.steps.Step.{Step}
-use Rattle.vd_gram.specs.declared.steps.Step.TheVariants.{Leaf, Node}
+use Rattle.vd_gram.specs.declared.steps.Step.TheVariants.{Node}
 use Rattle.vd_gram.specs.Derivations.{Trees, nothing as no_tree, leaf, node, yield, tree_count}
 use Rattle.vd_gram.specs.Runs.{steps_of}
-use Rattle.vd_forest.specs.Forest.{Forest, nothing, joined}
+use Rattle.vd_forest.specs.Forest.{Forest, nothing}
 use Rattle.vd_forms.specs.declared.form.Form.{Form}
 use Rattle.vd_shapes.specs.declared.actions.Action.{Action}
 use Rattle.vd_shapes.specs.declared.actions.Action.TheVariants.{Splice, Make, Wrap, Group}
-use Rattle.vd_shapes.specs.Shapes.{action_of, leaf_form, with_leaf, with_node, acted, start_of, grown}
-use Rattle.vd_shapes.specs.Machine.{Open, Machine, inner_start, set_aside, begun_with, opened, closed, counted, with_opened, stepped, run, begun}
+use Rattle.vd_shapes.specs.Shapes.{action_of, leaf_form, with_leaf, acted, start_of, grown}
+use Rattle.vd_shapes.specs.Machine.{Open, Machine, set_aside, begun_with, opened, closed, counted, with_opened, stepped, run, begun}
 
 module _ (actions : List Action) (tokens : List Lexeme) where
   pub run_more : (m : Machine) (ss : List Step) (s : Step) → run actions tokens m (ss ++ s ∷ []) ≡ stepped actions tokens (run actions tokens m ss) s
@@ -78,7 +78,7 @@ module _ (actions : List Action) (tokens : List Lexeme) where
             let same : o.left ≡ o.left + 1 - (0 + 1) = omega arith in
             let long : n ≡ n + 0 = omega arith in
             subst (λ x. run actions tokens (counted actions tokens (o ∷ os) s n) (steps_of x)
-                ≡ counted actions tokens (behind (tree_count x + 1) o ∷ os) (grown actions tokens o.start n x s) (n + length (yield x))) (sym is)
+            ≡ counted actions tokens (behind (tree_count x + 1) o ∷ os) (grown actions tokens o.start n x s) (n + length (yield x))) (sym is)
             ((λ i. counted actions tokens (record o { left = same i } ∷ os) s (long i)))
       ]
 
@@ -118,7 +118,7 @@ module _ (actions : List Action) (tokens : List Lexeme) where
           let start = start_of [] [] (action_of actions tokens k) o.start n in
           let long : n ≡ n + 0 = omega arith in
           subst (λ x. run actions tokens (stepped actions tokens (record { open_ones = o ∷ os; so_far = s; taken = n }) (Node k (tree_count x))) (steps_of x)
-              ≡ counted actions tokens (o ∷ os) (acted actions tokens (action_of actions tokens k) start (grown actions tokens start n x) s) (n + length (yield x))) (sym (no_trees parts no_parts))
+          ≡ counted actions tokens (o ∷ os) (acted actions tokens (action_of actions tokens k) start (grown actions tokens start n x) s) (n + length (yield x))) (sym (no_trees parts no_parts))
           (λ i. counted actions tokens (o ∷ os) (closed_acted (action_of actions tokens k) start (λ y. y) s i) (long i))
 
   -- the whole derivation is told: nothing is open, and what stands there are its trees

@@ -1,11 +1,10 @@
 -- A table of some lists, wherever they stand in memory.
-use Rattle.std.specs.Prelude.{ℕ, ◌≡◌, suc, zero, List, [], ◌∷◌, map, Bool, true, IsTrue}
+use Rattle.std.specs.Prelude.{ℕ, ◌≡◌, suc, zero, List, [], ◌∷◌, map}
 use Rattle.std.proofs.Common.{refl, sym, ap, ◌∙◌, subst, Bor}
 use Rattle.vd_gram.specs.declared.tables.Production.{Production}
 use Rattle.vd_gram.specs.declared.tables.Claim.{Claim}
 use Rattle.vd_gram.specs.declared.tables.Table.{Table}
-use Rattle.vd_gram.specs.Claims.{is_checked}
-use Rattle.vd_gram.specs.Same.{IsSameGrammar, AreSameProductions, listed}
+use Rattle.vd_gram.specs.Same.{IsSameGrammar, AreSameProductions}
 use Rattle.vd_shapes.specs.declared.rows.Lists.{Lists}
 use Rattle.vd_shapes.specs.Rows.{plain, pieces, PlainClaim, plain_claim, claims_of, IsListed, production_of, table_of}
 

@@ -1,9 +1,9 @@
 -- One step through a flat list.
-use Rattle.std.specs.Prelude.{ℕ, ◌≡◌, ◌+◌, ◌-◌, ◌<◌, ◌≤◌, List, [], ◌∷◌, ◌++◌, map, length, take, drop, get_or, Bool, true, false, nat_eq, if◌then◌else◌, slice_range, Option, Some, None}
-use Rattle.std.proofs.Common.{refl, sym, ap, ◌∙◌, arith, subst, eq-eqb}
+use Rattle.std.specs.Prelude.{ℕ, ◌≡◌, ◌+◌, ◌-◌, ◌<◌, ◌≤◌, List, [], ◌∷◌, ◌++◌, length, take, drop, get_or, Bool, true, false, nat_eq, slice_range, Option, Some, None}
+use Rattle.std.proofs.Common.{refl, sym, ap, ◌∙◌, arith, eq-eqb}
 use Rattle.std.proofs.lemmas.Bool.{ne_eqb}
 use Rattle.std.proofs.Math.Seq.{take-add}
-use Rattle.std.proofs.lemmas.List.{drop_more, map_push, append_assoc, drop-drop}
+use Rattle.std.proofs.lemmas.List.{drop_more, append_assoc, drop-drop}
 use Rattle.vd_gram.specs.declared.tables.Production.{Production}
 use Rattle.vd_shapes.specs.Rows.{plain, pieces, pieces_from, kept, row_end}
 
@@ -29,7 +29,7 @@ pub row_goes_on : (rows : List (List ℕ)) (xs : List ℕ) (s i : ℕ) → s ≤
     → (rows ++ pieces_from (slice_range xs s i) (drop i xs)) ≡ pieces xs → (rows ++ pieces_from (slice_range xs s (i + 1)) (drop (i + 1) xs)) ≡ pieces xs
 row_goes_on rows xs s i le lt ne e =
     ap (λ ps. rows ++ ps) (ap (λ row. pieces_from row (drop (i + 1) xs)) (row_more xs s i le lt)
-      ∙ (sym (by_test false (slice_range xs s i) (get_or xs i 0) (drop (i + 1) xs) (ne_eqb (get_or xs i 0) row_end ne)) ∙ sym (ap (pieces_from (slice_range xs s i)) (drop_more xs i 0 lt))))
+    ∙ (sym (by_test false (slice_range xs s i) (get_or xs i 0) (drop (i + 1) xs) (ne_eqb (get_or xs i 0) row_end ne)) ∙ sym (ap (pieces_from (slice_range xs s i)) (drop_more xs i 0 lt))))
     ∙ e
 
 ends_as : (xs : List ℕ) (s i : ℕ) → i < length xs → get_or xs i 0 ≡ row_end → pieces_from (slice_range xs s i) (drop i xs) ≡ kept (slice_range xs s i) (pieces_from [] (drop (i + 1) xs))

@@ -1,5 +1,5 @@
 -- Answers by tables of one grammar.
-use Rattle.std.proofs.Common.{◌≡◌, ℕ, Bool, ◌||◌, if◌then◌else◌, List, [], ◌∷◌, refl, sym, ap, subst, ◌∙◌}
+use Rattle.std.proofs.Common.{◌≡◌, ℕ, ◌||◌, if◌then◌else◌, List, [], ◌∷◌, refl, ap, ◌∙◌}
 use Rattle.std.specs.List.{list_any}
 use Rattle.vd_tokens.specs.declared.kinds.Kind.{Kind}
 use Rattle.vd_tokens.specs.declared.kinds.Kind.TheVariants as kind
@@ -13,7 +13,7 @@ use Rattle.vd_shapes.specs.declared.reading.GrammarEnd.{GrammarEnd}
 use Rattle.vd_shapes.specs.declared.reading.GrammarEnd.TheVariants as end
 use Rattle.vd_shapes.specs.declared.shaping.Shaped.{Shaped}
 use Rattle.vd_shapes.specs.Answers.{IsShaped}
-use Rattle.vd_shapes.specs.Reading.{symbol_of, symbols_in, is_used, rule_at, IsReadEnd, IsRefusedAt}
+use Rattle.vd_shapes.specs.Reading.{symbol_of, symbols_in, rule_at, IsReadEnd}
 
 same_uses : (ps qs : List Production) (s : ℕ) → AreSameProductions ps qs → list_any (λ p. has p.right.now s) ps ≡ list_any (λ p. has p.right.now s) qs
 same_uses [] [] s h = refl

@@ -1,19 +1,16 @@
 -- Shapes at the start and at the end of a text.
-use Rattle.std.proofs.Common.{◌≡◌, ℕ, zero, ◌+◌, List, [], ◌∷◌, ◌++◌, length, map, drop, reverse, refl, sym, ap, subst, ◌∙◌, arith}
+use Rattle.std.proofs.Common.{◌≡◌, ℕ, List, [], ◌∷◌, reverse, refl, sym, ap, subst, ◌∙◌}
 use Rattle.std.specs.List.{AllByRecursion}
-use Rattle.vd_tokens.specs.Lexemes.{Lexeme}
 use Rattle.vd_gram.specs.declared.tables.Table.{Table}
-use Rattle.vd_gram.specs.Derivations.{Trees, nothing as no_tree, leaf, node, tree_count, yield, Derive, IsDerivation, IsParse}
+use Rattle.vd_gram.specs.Derivations.{Trees, nothing as no_tree, leaf, node, tree_count, Derive, IsParse}
 use Rattle.vd_gram.specs.Runs.{steps_of}
 use Rattle.vd_forest.specs.Forest.{Forest, nothing, reversed}
-use Rattle.vd_forest.specs.Store.{Holds}
 use Rattle.vd_forms.specs.declared.form.Form.{Form}
-use Rattle.vd_shapes.specs.declared.actions.Action.{Action}
 use Rattle.vd_shapes.specs.declared.actions.Action.TheVariants.{Splice}
 use Rattle.vd_shapes.specs.declared.growing.Frame.{Frame}
 use Rattle.vd_shapes.specs.declared.growing.Growing.{Growing}
-use Rattle.vd_shapes.specs.Shapes.{settled, shape, grown}
-use Rattle.vd_shapes.specs.Machine.{run, begun}
+use Rattle.vd_shapes.specs.Shapes.{shape}
+use Rattle.vd_shapes.specs.Machine.{begun}
 use Rattle.vd_shapes.specs.Standing.{StandsAt, IsGrown, planted_all, trees_of, AreFrames}
 use Rattle.vd_shapes.proofs.FrameLemmas.{reversed_planted}
 use Rattle.vd_shapes.proofs.MachineLemmas.{all_told}

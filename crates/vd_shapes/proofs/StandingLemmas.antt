@@ -1,8 +1,7 @@
 -- The code's lists stand where the machine does.
-use Rattle.std.proofs.Common.{◌≡◌, ℕ, zero, suc, ◌+◌, ◌-◌, ◌<◌, ◌≤◌, Bool, true, false, List, [], ◌∷◌, ◌++◌, length, map, take, drop, reverse, Option, Some, None, refl, sym, ap, subst, ◌∙◌, arith, length-append}
+use Rattle.std.proofs.Common.{◌≡◌, ℕ, ◌-◌, ◌≤◌, Bool, true, false, List, [], ◌∷◌, ◌++◌, length, take, drop, reverse, Some, refl, sym, ap, subst, ◌∙◌}
 use Rattle.std.specs.List.{AllByRecursion}
 use Rattle.std.proofs.lemmas.List.{take-map, drop-map, map-append, reverse-append}
-use Rattle.vd_bytes.specs.declared.places.Place.{Place}
 use Rattle.vd_tokens.specs.Lexemes.{Lexeme}
 use Rattle.vd_forest.specs.Forest.{Forest}
 use Rattle.vd_forest.specs.Store.{at, Holds, Extends}
@@ -11,9 +10,9 @@ use Rattle.vd_forms.specs.Validity.{keeps_brackets}
 use Rattle.vd_shapes.specs.declared.entries.Entry.{Entry}
 use Rattle.vd_shapes.specs.declared.actions.Action.{Action}
 use Rattle.vd_shapes.specs.declared.growing.Frame.{Frame}
-use Rattle.vd_shapes.specs.Shapes.{place_at, text_at, settled, leaf_form, with_leaf}
-use Rattle.vd_shapes.specs.Machine.{Open, Machine}
-use Rattle.vd_shapes.specs.Standing.{Tree, planted, planted_all, tree_of, trees_of, IsEntryOf, IsFrame, AreFrames}
+use Rattle.vd_shapes.specs.Shapes.{place_at, settled, leaf_form, with_leaf}
+use Rattle.vd_shapes.specs.Machine.{Open}
+use Rattle.vd_shapes.specs.Standing.{Tree, planted, planted_all, tree_of, trees_of, IsEntryOf, AreFrames}
 use Rattle.vd_shapes.proofs.EntryLemmas.{all_of_both, all_taken, entries_more, trees_kept}
 use Rattle.vd_shapes.proofs.FrameLemmas.{made_tree, one_more_tree}
 

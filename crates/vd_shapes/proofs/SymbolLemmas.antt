@@ -1,7 +1,6 @@
 -- Symbols of tokens.
-use Rattle.std.proofs.Common.{◌≡◌, ℕ, zero, suc, ◌+◌, ◌-◌, ◌<◌, ◌≤◌, List, [], ◌∷◌, ◌++◌, length, take, Option, Some, slice_get, refl, sym, ap, subst, ◌∙◌, arith}
+use Rattle.std.proofs.Common.{◌≡◌, ℕ, zero, suc, ◌+◌, ◌-◌, ◌<◌, ◌≤◌, List, [], ◌∷◌, ◌++◌, length, take, Some, slice_get, refl, sym, ap, ◌∙◌, arith}
 use Rattle.std.proofs.lemmas.List.{take_all}
-use Rattle.vd_tokens.specs.declared.kinds.Kind.{Kind}
 use Rattle.vd_tokens.specs.Lexemes.{Lexeme}
 use Rattle.vd_tokens.specs.Spellings.{EndsOnce}
 use Rattle.vd_gram.specs.declared.tables.Table.{Table}

@@ -1,5 +1,5 @@
 -- Shapes made step by step, while a derivation is told. These words serve the code that makes trees.
-use Rattle.std.specs.Prelude.{ℕ, zero, suc, ◌+◌, ◌-◌, ◌≤◌, Bool, true, false, nat_le, nat_eq, if◌then◌else◌, List, [], ◌∷◌}
+use Rattle.std.specs.Prelude.{ℕ, ◌+◌, ◌-◌, Bool, true, false, nat_le, nat_eq, List, [], ◌∷◌}
 use Rattle.vd_tokens.specs.Lexemes.{Lexeme}
 use Rattle.vd_gram.specs.declared.steps.Step.{Step}
 use Rattle.vd_gram.specs.declared.steps.Step.TheVariants.{Leaf, Node}

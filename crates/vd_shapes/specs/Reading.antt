@@ -1,5 +1,5 @@
 -- What a reader of tokens answers.
-use Rattle.std.specs.Prelude.{◌≡◌, ℕ, ◌+◌, Bool, true, false, nat_lt, if◌then◌else◌, List, [], ◌∷◌, ◌++◌, map, length, slice_get, Some}
+use Rattle.std.specs.Prelude.{◌≡◌, ℕ, ◌+◌, Bool, true, false, nat_lt, if◌then◌else◌, List, [], ◌∷◌, slice_get, Some}
 use Rattle.std.specs.List.{list_any}
 use Rattle.vd_bytes.specs.declared.answers.Refused.{Refused}
 use Rattle.vd_tokens.specs.declared.kinds.Kind.{Kind}
@@ -8,12 +8,8 @@ use Rattle.vd_tokens.specs.Lexemes.{Lexeme}
 use Rattle.vd_gram.specs.declared.tables.Table.{Table}
 use Rattle.vd_gram.specs.Claims.{has, end_symbol}
 use Rattle.vd_gram.specs.Derivations.{IsRefused, IsTooDeep}
-use Rattle.vd_shapes.specs.declared.actions.Action.{Action}
 use Rattle.vd_shapes.specs.declared.reading.GrammarEnd.{GrammarEnd}
 use Rattle.vd_shapes.specs.declared.reading.GrammarEnd.TheVariants as end
-use Rattle.vd_shapes.specs.declared.shaping.Shaped.{Shaped}
-use Rattle.vd_shapes.specs.Answers.{IsShaped}
-use Rattle.vd_shapes.specs.Shapes.{place_at}
 
 -- the terminal that a token of a kind is: five kinds, 31 marks behind them, and 115 words behind these. The end is none
 abbrev pub symbol_of : Kind → ℕ

@@ -1,6 +1,6 @@
 -- The syntax tree of a derivation: its shape. Each production says by its action what its part of the derivation becomes among
 -- the trees that stand side by side so far.
-use Rattle.std.specs.Prelude.{ℕ, zero, suc, ◌+◌, Bool, true, false, if◌then◌else◌, List, [], ◌∷◌, length, Option, Some, None, slice_get, slice_index_or}
+use Rattle.std.specs.Prelude.{ℕ, zero, suc, ◌+◌, Bool, true, false, List, [], length, Option, Some, None, slice_get, slice_index_or}
 use Rattle.vd_bytes.specs.declared.places.Place.{Place}
 use Rattle.vd_tokens.specs.Lexemes.{Lexeme}
 use Rattle.vd_gram.specs.Derivations.{Trees, nothing as no_tree, leaf, node, yield}

@@ -130,13 +130,7 @@ impl<'a> Growing<'a> {
         ensures { OnOk result (IsMade self.old self.new form base start) }
     {
         let keep = keeps_brackets(form, are_one_expression(&self.entries, base));
-        let parts = gather(
-            &mut self.store,
-            self.tokens,
-            &mut self.entries,
-            base,
-            keep,
-        )?;
+        let parts = gather(&mut self.store, self.tokens, &mut self.entries, base, keep)?;
         self.entries.push(Entry {
             form,
             first: start,
@@ -292,7 +286,6 @@ impl<'a> Growing<'a> {
 
 impl<'a> Builder for Growing<'a> {
     ghost use Rattle.vd_shapes.specs.Standing.{IsGrown};
-
     ghost use Rattle.std.specs.Prelude.{List};
     ghost use Rattle.vd_tokens.specs.Lexemes.{Lexeme};
     ghost use Rattle.vd_shapes.specs.declared.actions.Action.{Action};

@@ -1,6 +1,6 @@
-use Rattle.std.proofs.Common.{◌≡◌, ◌≤◌, length, drop}
+use Rattle.std.proofs.Common.{◌≤◌, length, drop}
 use Rattle.vd_trees.specs.declared.revision.Revision.TheVariants.{V1993}
-use Rattle.vd_forest.specs.Store.{at, Extends, Holds}
+use Rattle.vd_forest.specs.Store.{Extends, Holds}
 use Rattle.vd_forms.specs.Validity.{IsDesign, all_joined}
 use Rattle.vd_forms.proofs.designs.copied_93.Given as goal
 

@@ -1,6 +1,4 @@
-use Rattle.std.proofs.Common.{◌≡◌, map, ◌++◌, drop, List, [], ◌∷◌, ℕ, Option}
-use Rattle.std.specs.Prelude.{Some, None}
-use Rattle.vd_gram.specs.declared.tables.Production.{Production}
+use Rattle.std.proofs.Common.{◌≡◌, map, ◌++◌, drop}
 use Rattle.vd_shapes.specs.Rows.{plain, plain_claim, claims_from, claims_of}
 use Rattle.vd_shapes.proofs.RowLemmas.{begun_row}
 use Rattle.vd_shapes.proofs.rows.claims.Given as goal

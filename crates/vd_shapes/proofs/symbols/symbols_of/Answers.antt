@@ -1,5 +1,5 @@
-use Rattle.std.proofs.Common.{◌++◌, [], ◌∷◌, sym, ap, take, subst, ◌∙◌, arith}
-use Rattle.vd_shapes.specs.Reading.{symbol_of, symbols_in}
+use Rattle.std.proofs.Common.{◌++◌, [], ◌∷◌, sym, ap, take, ◌∙◌, arith}
+use Rattle.vd_shapes.specs.Reading.{symbols_in}
 use Rattle.vd_shapes.proofs.SymbolLemmas.{symbols_more}
 use Rattle.vd_shapes.proofs.symbols.symbols_of.Goals as goal
 

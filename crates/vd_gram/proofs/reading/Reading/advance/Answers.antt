@@ -12,11 +12,14 @@ use Rattle.vd_gram.proofs.reading.Reading.advance.Given.{Over}
 pub loop-next-init : goal.loop-next-init
 loop-next-init g c =
     let s = c.requires in
-    record { kept = refl; looking = record {
-      steps = s.steps;
-      taken = s.taken;
-      ahead = ahead_from_stands c.args.checked.now.table c.args.checked.now.checked c.args.symbols.now c.args.deep c.args.place s.steps c.args.self.now s.stands;
-    } }
+    record {
+      kept = refl;
+      looking = record {
+        steps = s.steps;
+        taken = s.taken;
+        ahead = ahead_from_stands c.args.checked.now.table c.args.checked.now.checked c.args.symbols.now c.args.deep c.args.place s.steps c.args.self.now s.stands;
+      };
+    }
 
 pub returns-in-None-clause-answer : goal.returns-in-None-clause-answer
 returns-in-None-clause-answer g c =
@@ -47,14 +50,17 @@ loop-next-preserved g c =
     let made = c.in-Some-2.made in
     let before = record c.loop-next.self { stack = c.pop.new.self } in
     let ahead = ahead_popped t c.args.checked.now.checked c.args.symbols.now c.args.deep c.args.place c.in-Some.next c.pop.new.self i.steps c.loop-next.self c.in-Some.ensures i.ahead in
-    record { kept = c.in_ok-node-in-Some-2.ensures.kept ∙ c.loop-next.invariant.kept; looking = record {
-      steps = i.steps ++ Node made.production made.parts ∷ [];
-      taken = c.in_ok-node-in-Some-2.ensures.told i.steps i.taken;
-      ahead =
-          ahead_expanded t c.args.checked.now.checked c.args.symbols.now c.args.deep c.args.place made.production made.parts c.in-Some.next i.steps before c.expand.new.self
-          (sym c.is_terminal.ensures ∙ c.if-is_terminal.false) ahead
-          (subst (λ x. IsExpanded t x c.in-Some.next made.production made.parts before c.expand.new.self) c.symbol_ahead-ahead.ensures (expanded g c)) c.in_ok-expand.ensures.choices;
-    } }
+    record {
+      kept = c.in_ok-node-in-Some-2.ensures.kept ∙ c.loop-next.invariant.kept;
+      looking = record {
+        steps = i.steps ++ Node made.production made.parts ∷ [];
+        taken = c.in_ok-node-in-Some-2.ensures.told i.steps i.taken;
+        ahead =
+            ahead_expanded t c.args.checked.now.checked c.args.symbols.now c.args.deep c.args.place made.production made.parts c.in-Some.next i.steps before c.expand.new.self
+            (sym c.is_terminal.ensures ∙ c.if-is_terminal.false) ahead
+            (subst (λ x. IsExpanded t x c.in-Some.next made.production made.parts before c.expand.new.self) c.symbol_ahead-ahead.ensures (expanded g c)) c.in_ok-expand.ensures.choices;
+      };
+    }
 
 pub node-requires : goal.node-requires
 node-requires g c = (c.loop-next.invariant.looking.steps, c.loop-next.invariant.looking.taken)

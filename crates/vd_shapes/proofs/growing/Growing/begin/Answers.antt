@@ -1,6 +1,6 @@
-use Rattle.std.proofs.Common.{◌≡◌, true, false, nat_eq, [], ◌∷◌, sym, ap, subst, reverse, eq-eqb, arith, ◌∙◌}
+use Rattle.std.proofs.Common.{◌≡◌, true, false, nat_eq, ◌∷◌, sym, ap, subst, reverse, eq-eqb, arith, ◌∙◌}
 use Rattle.std.proofs.lemmas.Bool.{ne_eqb}
-use Rattle.vd_shapes.specs.Machine.{Machine, opened, begun_with, closed, counted, with_opened}
+use Rattle.vd_shapes.specs.Machine.{opened, begun_with, closed, counted, with_opened}
 use Rattle.vd_shapes.specs.Standing.{StandsAt, AreFrames, trees_of}
 use Rattle.vd_shapes.proofs.StandingLemmas.{reverse_last}
 use Rattle.vd_shapes.proofs.growing.Growing.begin.Goals as goal

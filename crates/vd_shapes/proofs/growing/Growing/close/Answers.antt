@@ -1,6 +1,5 @@
-use Rattle.std.proofs.Common.{◌∙◌, ◌≤◌, length, sym, ap, subst, reverse, arith}
+use Rattle.std.proofs.Common.{◌∙◌, sym, subst, reverse, arith}
 use Rattle.std.proofs.lemmas.List.{length-map}
-use Rattle.vd_shapes.specs.declared.actions.Action.TheVariants.{Make, Wrap}
 use Rattle.vd_shapes.specs.declared.growing.Frame.{Frame}
 use Rattle.vd_shapes.specs.declared.growing.Growing.{Growing}
 use Rattle.vd_forms.specs.declared.form.Form.{Form}

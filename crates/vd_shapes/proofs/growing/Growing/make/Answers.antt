@@ -1,4 +1,4 @@
-use Rattle.std.proofs.Common.{◌≡◌, drop, refl, sym, ap, subst, ◌∙◌}
+use Rattle.std.proofs.Common.{◌≡◌, drop, refl, ap, subst, ◌∙◌}
 use Rattle.vd_forms.specs.Validity.{keeps_brackets}
 use Rattle.vd_shapes.specs.Standing.{keeps_by, planted_all, trees_of}
 use Rattle.vd_shapes.proofs.StandingLemmas.{within_made, trees_made}

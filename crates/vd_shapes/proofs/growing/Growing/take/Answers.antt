@@ -1,4 +1,4 @@
-use Rattle.std.proofs.Common.{◌∙◌, [], ◌∷◌, sym, subst, reverse, ap, arith}
+use Rattle.std.proofs.Common.{◌∙◌, [], ◌∷◌, sym, subst, reverse, arith}
 use Rattle.std.specs.List.{AllByRecursion}
 use Rattle.std.proofs.Common.{length}
 use Rattle.vd_shapes.specs.Standing.{IsEntryOf}
