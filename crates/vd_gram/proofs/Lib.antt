@@ -14,3 +14,5 @@ pub mod FollowLemmas
 pub mod SignLemmas
 pub mod ListLemmas
 pub mod DerivationLemmas
+pub mod AnswerLemmas
+pub mod FrontLemmas

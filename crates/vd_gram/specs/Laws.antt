@@ -1,5 +1,5 @@
 -- What holds of every checked table.
-use Rattle.std.specs.Prelude.{ℕ, ◌≡◌, ◌≤◌, IsTrue, List}
+use Rattle.std.specs.Prelude.{ℕ, ◌≡◌, ◌<◌, ◌≤◌, IsTrue, List}
 use Rattle.vd_gram.specs.declared.tables.Table.{Table}
 use Rattle.vd_gram.specs.Claims.{is_checked}
 use Rattle.vd_gram.specs.Derivations.{Trees, IsDerivation, yield, places, unplaced, IsParse, IsRefused, IsTooDeep, depth}
@@ -30,3 +30,17 @@ HasOneAnswerEach = (t : Table) → IsTrue (is_checked t) → (symbols : List ℕ
 -- a derivation that is answered has no more marked nodes above one another than asked
 abbrev pub IsAsShallowAsAsked : Type 0
 IsAsShallowAsAsked = (t : Table) (symbols : List ℕ) (deep : ℕ) (f : Trees) → IsParse t symbols deep f → depth t f ≤ deep
+
+-- a text that has a derivation is too deep only where this derivation is
+abbrev pub IsDeepWhereDeep : Type 0
+IsDeepWhereDeep =
+    (t : Table) → IsTrue (is_checked t) → (f : Trees) (deep : ℕ) → IsDerivation t f → IsTooDeep t (yield f) deep → deep < depth t f
+
+-- some symbols have an answer: a derivation, or a place at which they are refused, or a node too deep
+pub data HasSomeAnswer (t : Table) (symbols : List ℕ) (deep : ℕ) : Type 0 where
+  some_parse : (f : Trees) → IsParse t symbols deep f → HasSomeAnswer t symbols deep
+  some_place : (place : ℕ) → IsRefused t symbols deep place → HasSomeAnswer t symbols deep
+  too_deep : IsTooDeep t symbols deep → HasSomeAnswer t symbols deep
+
+abbrev pub HasSomeAnswerEach : Type 0
+HasSomeAnswerEach = (t : Table) → IsTrue (is_checked t) → (symbols : List ℕ) (deep : ℕ) → HasSomeAnswer t symbols deep

@@ -1,5 +1,5 @@
 -- What a reader of a text that looks at one symbol at a time has to know. These words serve the reader's own functions.
-use Rattle.std.specs.Prelude.{ℕ, ◌+◌, ◌-◌, ◌*◌, ◌<◌, ◌≤◌, ◌≡◌, max, Bool, true, false, ◌&&◌, nat_eq, List, [], ◌∷◌, ◌++◌, length, take, Some, slice_get, if◌then◌else◌}
+use Rattle.std.specs.Prelude.{ℕ, ◌+◌, ◌-◌, ◌*◌, ◌<◌, ◌≤◌, ◌≡◌, max, Bool, true, false, ◌&&◌, nat_eq, List, [], ◌∷◌, ◌++◌, length, take, Option, Some, None, slice_get, if◌then◌else◌}
 use Rattle.std.specs.List.{list_all, range_with_len}
 use Rattle.std.specs.declared.hash.FoldHasher.{FoldHasher}
 use Rattle.std.specs.declared.hash.BuildHasherDefault.{BuildHasherDefault}
@@ -104,3 +104,8 @@ abbrev pub AreChoices : Table → HashMap ℕ ℕ (BuildHasherDefault FoldHasher
 AreChoices t known =
     (nonterminal sign production : ℕ) → sign < 65536 → get nat_eq known (nonterminal * 65536 + sign) ≡ Some production
     → IsChoice t nonterminal sign production
+
+-- what a map has for a nonterminal and a symbol of which some production is told
+abbrev pub IsKnown : HashMap ℕ ℕ (BuildHasherDefault FoldHasher) → ℕ → ℕ → Option ℕ → Type 0
+IsKnown known nonterminal sign None = Unit {0}
+IsKnown known nonterminal sign (Some production) = get nat_eq known (nonterminal * 65536 + sign) ≡ Some production

@@ -11,7 +11,7 @@ use crate::claims::{
 use crate::tables::{CheckedTable, Claim, END, Production, Symbol, Table};
 
 /// Whether the symbol is a nonterminal with one claim.
-fn is_claimed(table: &Table, symbol: Symbol) -> bool
+fn is_claimed(table: &Table<'_>, symbol: Symbol) -> bool
     ensures { result ≡ is_claimed table.now symbol }
 {
     is_nonterminal(table, symbol)
@@ -23,7 +23,7 @@ fn is_claimed(table: &Table, symbol: Symbol) -> bool
             == 1
 }
 
-fn is_known(table: &Table, symbol: Symbol) -> bool
+fn is_known(table: &Table<'_>, symbol: Symbol) -> bool
     ensures { result ≡ is_known table.now symbol }
 {
     is_terminal(table, symbol) || is_claimed(table, symbol)
@@ -37,7 +37,7 @@ fn is_within(symbols: &[Symbol], set: &[Symbol]) -> bool
 }
 
 /// Whether each symbol that the texts of a symbol can begin with is one of these.
-fn first_is_within(table: &Table, symbol: Symbol, set: &[Symbol]) -> bool
+fn first_is_within(table: &Table<'_>, symbol: Symbol, set: &[Symbol]) -> bool
     ensures { result ≡ is_within (first_of table.now symbol) set.now }
 {
     if is_terminal(table, symbol) {
@@ -51,7 +51,7 @@ fn first_is_within(table: &Table, symbol: Symbol, set: &[Symbol]) -> bool
 
 /// Whether each symbol that the texts of some symbols can begin with is one of these.
 #[tactic(auto, using(crate::proofs::ClaimLemmas::all_steps))]
-fn firsts_are_within(table: &Table, symbols: &[Symbol], set: &[Symbol]) -> bool
+fn firsts_are_within(table: &Table<'_>, symbols: &[Symbol], set: &[Symbol]) -> bool
     ensures { result ≡ is_within (firsts_of table.now symbols.now) set.now }
 {
     for symbol in symbols {
@@ -66,7 +66,7 @@ fn firsts_are_within(table: &Table, symbols: &[Symbol], set: &[Symbol]) -> bool
 }
 
 /// Whether what follows the first of these symbols is claimed to follow it.
-fn follow_is_closed(table: &Table, after: &[Symbol], symbol: Symbol, rest: &[Symbol]) -> bool
+fn follow_is_closed(table: &Table<'_>, after: &[Symbol], symbol: Symbol, rest: &[Symbol]) -> bool
     ensures { result ≡ follow_is_closed table.now after.now symbol rest.now }
 {
     let follow = follow_of(table, symbol);
@@ -77,7 +77,7 @@ fn follow_is_closed(table: &Table, after: &[Symbol], symbol: Symbol, rest: &[Sym
 
 /// Whether what follows each of these symbols is claimed to follow it.
 #[tactic(auto, using(crate::proofs::ClaimLemmas::follows_steps))]
-fn follows_are_closed(table: &Table, after: &[Symbol], symbols: &[Symbol]) -> bool
+fn follows_are_closed(table: &Table<'_>, after: &[Symbol], symbols: &[Symbol]) -> bool
     ensures { result ≡ follows_are_closed table.now after.now symbols.now }
 {
     for (index, symbol) in symbols.iter().enumerate() {
@@ -88,14 +88,14 @@ fn follows_are_closed(table: &Table, after: &[Symbol], symbols: &[Symbol]) -> bo
     true
 }
 
-fn are_known(table: &Table, symbols: &[Symbol]) -> bool
+fn are_known(table: &Table<'_>, symbols: &[Symbol]) -> bool
     ensures { result ≡ list_all (is_known table.now) symbols.now }
 {
     symbols.iter().all(|symbol| is_known(table, *symbol))
 }
 
 /// Whether each symbol of a follow set has one claim, but for the terminals and the end.
-fn are_known_or_end(table: &Table, symbols: &[Symbol]) -> bool
+fn are_known_or_end(table: &Table<'_>, symbols: &[Symbol]) -> bool
     ensures { result ≡ list_all (is_known_or_end table.now) symbols.now }
 {
     symbols
@@ -104,7 +104,7 @@ fn are_known_or_end(table: &Table, symbols: &[Symbol]) -> bool
 }
 
 /// Whether what is claimed of a production's left covers its right.
-fn sets_are_closed(table: &Table, production: &Production) -> bool
+fn sets_are_closed(table: &Table<'_>, production: &Production<'_>) -> bool
     ensures { result ≡ sets_are_closed table.now production.now }
 {
     if can_all_be_empty(table, production.right) && !can_be_empty(table, production.left) {
@@ -114,7 +114,7 @@ fn sets_are_closed(table: &Table, production: &Production) -> bool
         && follows_are_closed(table, follow_of(table, production.left), production.right)
 }
 
-fn is_closed_under(table: &Table, production: &Production) -> bool
+fn is_closed_under(table: &Table<'_>, production: &Production<'_>) -> bool
     ensures { result ≡ is_closed_under table.now production.now }
 {
     if !is_claimed(table, production.left) || !are_known(table, production.right) {
@@ -124,7 +124,7 @@ fn is_closed_under(table: &Table, production: &Production) -> bool
 }
 
 /// Whether the symbols that a production can begin with are claimed of what stands on its left.
-fn firsts_begin(table: &Table, production: &Production) -> bool
+fn firsts_begin(table: &Table<'_>, production: &Production<'_>) -> bool
     ensures { result ≡ is_within (firsts_of table.now production.now.right.now) (first_claim (claim_of table.now production.now.left)) }
 {
     match claim_of(table, production.left) {
@@ -134,7 +134,7 @@ fn firsts_begin(table: &Table, production: &Production) -> bool
 }
 
 /// Whether a claim is the only one on its nonterminal, and each nonterminal in its sets has one too.
-fn claim_is_known(table: &Table, claim: &Claim) -> bool
+fn claim_is_known(table: &Table<'_>, claim: &Claim<'_>) -> bool
     ensures { result ≡ claim_is_known table.now claim.now }
 {
     is_claimed(table, claim.symbol)
@@ -142,7 +142,7 @@ fn claim_is_known(table: &Table, claim: &Claim) -> bool
         && are_known_or_end(table, claim.follow)
 }
 
-fn claims_are_known(table: &Table) -> bool
+fn claims_are_known(table: &Table<'_>) -> bool
     ensures { result ≡ list_all (claim_is_known table.now) table.now.claims.now }
 {
     table
@@ -152,13 +152,13 @@ fn claims_are_known(table: &Table) -> bool
 }
 
 /// Whether the nonterminals of the claims and the marked ones have one claim each.
-fn other_names_are_claimed(table: &Table) -> bool
+fn other_names_are_claimed(table: &Table<'_>) -> bool
     ensures { result ≡ other_names_are_claimed table.now }
 {
     !is_terminal(table, END) && claims_are_known(table) && are_known(table, table.marked)
 }
 
-fn productions_are_closed(table: &Table) -> bool
+fn productions_are_closed(table: &Table<'_>) -> bool
     ensures { result ≡ list_all (is_closed_under table.now) table.now.productions.now }
 {
     table
@@ -167,13 +167,13 @@ fn productions_are_closed(table: &Table) -> bool
         .all(|production| is_closed_under(table, production))
 }
 
-fn start_is_claimed(table: &Table) -> bool
+fn start_is_claimed(table: &Table<'_>) -> bool
     ensures { result ≡ start_is_claimed table.now }
 {
     is_claimed(table, table.start) && has(follow_of(table, table.start), END)
 }
 
-fn claims_are_closed(table: &Table) -> bool
+fn claims_are_closed(table: &Table<'_>) -> bool
     ensures { result ≡ claims_are_closed table.now }
 {
     start_is_claimed(table) && productions_are_closed(table) && other_names_are_claimed(table)
@@ -181,7 +181,7 @@ fn claims_are_closed(table: &Table) -> bool
 
 /// Whether each nonterminal in front of which only empty symbols can stand has a lower rank.
 #[tactic(auto, using(crate::proofs::ClaimLemmas::fronts_steps))]
-fn fronts_are_lower(table: &Table, rank: u32, symbols: &[Symbol]) -> bool
+fn fronts_are_lower(table: &Table<'_>, rank: u32, symbols: &[Symbol]) -> bool
     ensures { result ≡ fronts_are_lower table.now rank symbols.now }
 {
     for symbol in symbols {
@@ -195,20 +195,20 @@ fn fronts_are_lower(table: &Table, rank: u32, symbols: &[Symbol]) -> bool
     true
 }
 
-fn is_shown(table: &Table, rank: u32, symbol: Symbol) -> bool
+fn is_shown(table: &Table<'_>, rank: u32, symbol: Symbol) -> bool
     ensures { result ≡ is_shown table.now rank symbol }
 {
     is_terminal(table, symbol) || can_be_empty(table, symbol) || has_lower_rank(table, rank, symbol)
 }
 
-fn are_shown(table: &Table, rank: u32, symbols: &[Symbol]) -> bool
+fn are_shown(table: &Table<'_>, rank: u32, symbols: &[Symbol]) -> bool
     ensures { result ≡ list_all (is_shown table.now rank) symbols.now }
 {
     symbols.iter().all(|symbol| is_shown(table, rank, *symbol))
 }
 
 /// Whether no production of a claim's nonterminal begins with it or a higher one.
-fn is_not_left_recursive(table: &Table, claim: &Claim) -> bool
+fn is_not_left_recursive(table: &Table<'_>, claim: &Claim<'_>) -> bool
     ensures { result ≡ is_not_left_recursive table.now claim.now }
 {
     table.productions.iter().all(|production| production.left != claim.symbol
@@ -216,14 +216,14 @@ fn is_not_left_recursive(table: &Table, claim: &Claim) -> bool
 }
 
 /// Whether a claim's nonterminal has a production whose symbols are shown to have a text.
-fn has_text(table: &Table, claim: &Claim) -> bool
+fn has_text(table: &Table<'_>, claim: &Claim<'_>) -> bool
     ensures { result ≡ has_text table.now claim.now }
 {
     table.productions.iter().any(|production| production.left == claim.symbol
         && are_shown(table, claim.rank, production.right))
 }
 
-fn rank_shows(table: &Table, claim: &Claim) -> bool
+fn rank_shows(table: &Table<'_>, claim: &Claim<'_>) -> bool
     ensures { result ≡ rank_shows table.now claim.now }
 {
     if claim.empty && !has_empty(table, claim) {
@@ -232,14 +232,14 @@ fn rank_shows(table: &Table, claim: &Claim) -> bool
     is_not_left_recursive(table, claim) && has_text(table, claim)
 }
 
-fn ranks_show(table: &Table) -> bool
+fn ranks_show(table: &Table<'_>) -> bool
     ensures { result ≡ ranks_show table.now }
 {
     table.claims.iter().all(|claim| rank_shows(table, claim))
 }
 
 /// Whether the nonterminal of a claim has a production of symbols that can all be empty.
-fn has_empty(table: &Table, claim: &Claim) -> bool
+fn has_empty(table: &Table<'_>, claim: &Claim<'_>) -> bool
     ensures { result ≡ has_empty table.now claim.now }
 {
     table.productions.iter().any(|production| production.left == claim.symbol
@@ -247,7 +247,7 @@ fn has_empty(table: &Table, claim: &Claim) -> bool
 }
 
 /// Whether no symbol of these tells that a production comes next.
-fn are_no_signs(table: &Table, symbols: &[Symbol], production: &Production) -> bool
+fn are_no_signs(table: &Table<'_>, symbols: &[Symbol], production: &Production<'_>) -> bool
     ensures { result ≡ is_apart symbols.now (signs_of table.now production.now) }
 {
     symbols
@@ -256,7 +256,7 @@ fn are_no_signs(table: &Table, symbols: &[Symbol], production: &Production) -> b
 }
 
 /// Whether no symbol that the texts of a symbol can begin with tells that a production comes next.
-fn first_is_apart(table: &Table, symbol: Symbol, production: &Production) -> bool
+fn first_is_apart(table: &Table<'_>, symbol: Symbol, production: &Production<'_>) -> bool
     ensures { result ≡ is_apart (first_of table.now symbol) (signs_of table.now production.now) }
 {
     if is_terminal(table, symbol) {
@@ -271,7 +271,7 @@ fn first_is_apart(table: &Table, symbol: Symbol, production: &Production) -> boo
 /// Whether no symbol that the texts of some symbols can begin with tells that a production comes
 /// next.
 #[tactic(auto, using(crate::proofs::ClaimLemmas::all_steps))]
-fn firsts_are_apart(table: &Table, symbols: &[Symbol], production: &Production) -> bool
+fn firsts_are_apart(table: &Table<'_>, symbols: &[Symbol], production: &Production<'_>) -> bool
     ensures { result ≡ is_apart (firsts_of table.now symbols.now) (signs_of table.now production.now) }
 {
     for symbol in symbols {
@@ -288,7 +288,7 @@ fn firsts_are_apart(table: &Table, symbols: &[Symbol], production: &Production) 
 /// Whether no symbol tells of both productions, and at most one can be empty, where both are of
 /// one nonterminal.
 #[tactic(auto, using(crate::proofs::ClaimLemmas::apart_signs))]
-fn are_told_apart(table: &Table, one: &Production, other: &Production) -> bool
+fn are_told_apart(table: &Table<'_>, one: &Production<'_>, other: &Production<'_>) -> bool
     ensures { result ≡ are_told_apart table.now one.now other.now }
 {
     if one.left != other.left {
@@ -304,7 +304,7 @@ fn are_told_apart(table: &Table, one: &Production, other: &Production) -> bool
 }
 
 /// Whether a production is told apart from each of these.
-fn is_told_apart(table: &Table, production: &Production, others: &[Production]) -> bool
+fn is_told_apart(table: &Table<'_>, production: &Production<'_>, others: &[Production<'_>]) -> bool
     ensures { result ≡ list_all (are_told_apart table.now production.now) others.now }
 {
     others
@@ -313,7 +313,7 @@ fn is_told_apart(table: &Table, production: &Production, others: &[Production]) 
 }
 
 #[tactic(auto, using(crate::proofs::ClaimLemmas::told_steps))]
-fn all_told_apart(table: &Table) -> bool
+fn all_told_apart(table: &Table<'_>) -> bool
     ensures { result ≡ all_told_apart table.now table.now.productions.now }
 {
     for (index, production) in table.productions.iter().enumerate() {
@@ -325,7 +325,7 @@ fn all_told_apart(table: &Table) -> bool
 }
 
 #[tactic(auto, unfolding(crate::specs::Claims::is_checked))]
-fn is_checked(table: &Table) -> bool
+fn is_checked(table: &Table<'_>) -> bool
     ensures { result ≡ is_checked table.now }
 {
     claims_are_closed(table) && ranks_show(table) && all_told_apart(table)
@@ -333,9 +333,9 @@ fn is_checked(table: &Table) -> bool
 
 /// The table with the fact that its claims hold together, or the table as it is. It takes no
 /// memory.
-pub fn check(table: Table) -> Result<CheckedTable, Table>
-    ensures ok { IfOk result (λ checked. (checked.table ≡ table) × IsTrue (is_checked table)) }
-    ensures err { IfErr result (λ given_back. (given_back ≡ table) × ¬ (IsTrue (is_checked table))) }
+pub fn check<'a>(table: Table<'a>) -> Result<CheckedTable<'a>, Table<'a>>
+    ensures ok { IfOk result (λ checked. (checked.table ≡ table.entry) × IsTrue (is_checked table.entry)) }
+    ensures err { IfErr result (λ given_back. (given_back ≡ table.entry) × ¬ (IsTrue (is_checked table.entry))) }
 {
     if is_checked(&table) {
         Ok(CheckedTable { table })

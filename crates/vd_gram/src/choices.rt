@@ -2,9 +2,10 @@
 
 ghost use Rattle.std.specs.Prelude.{◌≡◌, ◌+◌, ◌*◌, ◌<◌, ℕ, IfOk, MatchOption};
 ghost use Rattle.vd_gram.specs.declared.tables.Table.{Table};
-ghost use Rattle.vd_gram.specs.Runs.{IsChoice, IsNoChoice, AreChoices, tells};
+ghost use Rattle.vd_gram.specs.Runs.{IsChoice, IsNoChoice, AreChoices, IsKnown, tells};
 
 use crate::claims::is_sign;
+use crate::numbers::narrow;
 use crate::tables::{Production, Symbol, Table};
 use std::alloc::{AllocError, Global};
 use std::collections::HashMap;
@@ -30,7 +31,7 @@ impl Choices {
     #[tactic(auto, using(crate::proofs::ChoiceLemmas::choices))]
     pub(crate) fn choice(
         &mut self,
-        table: &Table,
+        table: &Table<'_>,
         nonterminal: Symbol,
         ahead: Symbol,
     ) -> Result<Option<u32>, AllocError>
@@ -38,6 +39,7 @@ impl Choices {
         ensures choice { IfOk result (λ choice. MatchOption choice (IsNoChoice table.now nonterminal ahead)
             (λ production. IsChoice table.now nonterminal ahead production)) }
         ensures choices { AreChoices table.now self.new.known }
+        ensures known { IfOk result (λ choice. IsKnown self.new.known nonterminal ahead choice) }
     {
         let key = key(nonterminal, ahead);
         if let Some(production) = self.known.get(&key) {
@@ -46,7 +48,7 @@ impl Choices {
         match find_choice(table, nonterminal, ahead) {
             None => Ok(None),
             Some(place) => {
-                let production = u32::try_from(place).map_err(|_| AllocError)?;
+                let production = narrow(place)?;
                 self.known.insert(key, production)?;
                 Ok(Some(production))
             }
@@ -62,7 +64,7 @@ fn key(nonterminal: Symbol, ahead: Symbol) -> u32
 }
 
 /// Whether a symbol tells of a production, and it is one of the nonterminal.
-fn tells(table: &Table, production: &Production, nonterminal: Symbol, ahead: Symbol) -> bool
+fn tells(table: &Table<'_>, production: &Production<'_>, nonterminal: Symbol, ahead: Symbol) -> bool
     ensures { result ≡ tells table.now nonterminal ahead production.now }
 {
     production.left == nonterminal && is_sign(table, production, ahead)
@@ -70,7 +72,7 @@ fn tells(table: &Table, production: &Production, nonterminal: Symbol, ahead: Sym
 
 /// The first production of a nonterminal of which a symbol tells.
 #[tactic(auto, using(crate::proofs::ChoiceLemmas::finding))]
-fn find_choice(table: &Table, nonterminal: Symbol, ahead: Symbol) -> Option<usize>
+fn find_choice(table: &Table<'_>, nonterminal: Symbol, ahead: Symbol) -> Option<usize>
     ensures { MatchOption result (IsNoChoice table.now nonterminal ahead) (λ production. IsChoice table.now nonterminal ahead production) }
 {
     for (place, production) in table.productions.iter().enumerate() {

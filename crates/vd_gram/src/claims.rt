@@ -13,20 +13,20 @@ pub(crate) fn has(symbols: &[Symbol], symbol: Symbol) -> bool
     symbols.contains(&symbol)
 }
 
-pub(crate) fn is_terminal(table: &Table, symbol: Symbol) -> bool
+pub(crate) fn is_terminal(table: &Table<'_>, symbol: Symbol) -> bool
     ensures { result ≡ is_terminal table.now symbol }
 {
     symbol < table.terminals
 }
 
-pub(crate) fn is_nonterminal(table: &Table, symbol: Symbol) -> bool
+pub(crate) fn is_nonterminal(table: &Table<'_>, symbol: Symbol) -> bool
     ensures { result ≡ is_nonterminal table.now symbol }
 {
     !is_terminal(table, symbol) && symbol != END
 }
 
 /// The claim of a symbol, if it has one.
-pub(crate) fn claim_of(table: &Table, symbol: Symbol) -> Option<Claim>
+pub(crate) fn claim_of<'a>(table: &Table<'a>, symbol: Symbol) -> Option<Claim<'a>>
     ensures { result ≡ claim_of table.now symbol }
 {
     table
@@ -37,7 +37,7 @@ pub(crate) fn claim_of(table: &Table, symbol: Symbol) -> Option<Claim>
 }
 
 /// Whether the symbol can become the empty text.
-pub(crate) fn can_be_empty(table: &Table, symbol: Symbol) -> bool
+pub(crate) fn can_be_empty(table: &Table<'_>, symbol: Symbol) -> bool
     ensures { result ≡ can_be_empty table.now symbol }
 {
     if is_terminal(table, symbol) {
@@ -50,14 +50,14 @@ pub(crate) fn can_be_empty(table: &Table, symbol: Symbol) -> bool
 }
 
 /// Whether each of these symbols can.
-pub(crate) fn can_all_be_empty(table: &Table, symbols: &[Symbol]) -> bool
+pub(crate) fn can_all_be_empty(table: &Table<'_>, symbols: &[Symbol]) -> bool
     ensures { result ≡ can_all_be_empty table.now symbols.now }
 {
     symbols.iter().all(|symbol| can_be_empty(table, *symbol))
 }
 
 /// The symbols that can stand behind a symbol.
-pub(crate) fn follow_of(table: &Table, symbol: Symbol) -> Symbols
+pub(crate) fn follow_of<'a>(table: &Table<'a>, symbol: Symbol) -> Symbols<'a>
     ensures { result.now ≡ follow_of table.now symbol }
 {
     match claim_of(table, symbol) {
@@ -67,7 +67,7 @@ pub(crate) fn follow_of(table: &Table, symbol: Symbol) -> Symbols
 }
 
 /// Whether texts of the first symbol can begin with the second.
-pub(crate) fn can_begin(table: &Table, symbol: Symbol, first: Symbol) -> bool
+pub(crate) fn can_begin(table: &Table<'_>, symbol: Symbol, first: Symbol) -> bool
     ensures { result ≡ has (first_of table.now symbol) first }
 {
     if is_terminal(table, symbol) {
@@ -81,7 +81,7 @@ pub(crate) fn can_begin(table: &Table, symbol: Symbol, first: Symbol) -> bool
 
 /// Whether texts of some symbols can begin with a symbol.
 #[tactic(auto, using(crate::proofs::ClaimLemmas::begin_steps))]
-pub(crate) fn can_all_begin(table: &Table, symbols: &[Symbol], first: Symbol) -> bool
+pub(crate) fn can_all_begin(table: &Table<'_>, symbols: &[Symbol], first: Symbol) -> bool
     ensures { result ≡ has (firsts_of table.now symbols.now) first }
 {
     for symbol in symbols {
@@ -97,7 +97,7 @@ pub(crate) fn can_all_begin(table: &Table, symbols: &[Symbol], first: Symbol) ->
 
 /// Whether a symbol tells that a production comes next.
 #[tactic(auto, using(crate::proofs::ClaimLemmas::has_append))]
-pub(crate) fn is_sign(table: &Table, production: &Production, symbol: Symbol) -> bool
+pub(crate) fn is_sign(table: &Table<'_>, production: &Production<'_>, symbol: Symbol) -> bool
     ensures { result ≡ has (signs_of table.now production.now) symbol }
 {
     can_all_begin(table, production.right, symbol)
@@ -106,7 +106,7 @@ pub(crate) fn is_sign(table: &Table, production: &Production, symbol: Symbol) ->
 }
 
 /// Whether the symbol is a nonterminal of a lower rank.
-pub(crate) fn has_lower_rank(table: &Table, rank: u32, symbol: Symbol) -> bool
+pub(crate) fn has_lower_rank(table: &Table<'_>, rank: u32, symbol: Symbol) -> bool
     ensures { result ≡ has_lower_rank table.now rank symbol }
 {
     if !is_nonterminal(table, symbol) {

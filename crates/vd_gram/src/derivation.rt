@@ -5,7 +5,7 @@ ghost use Rattle.vd_gram.specs.Derivations.{nothing};
 ghost use Rattle.vd_gram.specs.Links.{trees_of, IsLinked, IsLinkedFrom, IsSpan, first_trees, trees_from};
 ghost use Rattle.vd_gram.specs.Openings.{opened};
 
-use crate::reading::narrow;
+use crate::numbers::narrow;
 use crate::steps::Step;
 use crate::tables::Symbol;
 use std::alloc::{AllocError, Global};

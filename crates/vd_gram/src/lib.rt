@@ -6,10 +6,11 @@ mod choices;
 mod claims;
 pub mod derivation;
 pub mod laws;
+mod numbers;
 mod parsing;
 mod reading;
 mod stack;
-mod steps;
+pub mod steps;
 pub mod tables;
 #[cfg(test)]
 mod test_tables;
@@ -18,7 +19,8 @@ mod tests;
 
 pub use checking::check;
 pub use derivation::{Cursor, Derivation, Opened};
-pub use parsing::parse;
+pub use parsing::{parse, tell};
+pub use steps::{Builder, Step};
 pub use tables::{
     CheckedTable, Claim, Claims, END, ParseEnd, Production, Productions, Symbol, Symbols, Table,
 };

@@ -10,53 +10,70 @@ use std::alloc::AllocError;
 pub type Symbol = u16;
 
 /// Some symbols.
-pub type Symbols = &'static [Symbol];
+pub type Symbols<'a> = &'a [Symbol];
 
 /// The symbol behind the last one of a text.
 pub const END: Symbol = 65535;
 
 /// What a nonterminal may become.
 #[derive(Clone, Copy, Drop)]
-pub struct Production {
+pub struct Production<'a> {
     pub left: Symbol,
-    pub right: Symbols,
+    pub right: Symbols<'a>,
 }
 
 /// Some productions, each with its place as its number.
-pub type Productions = &'static [Production];
+pub type Productions<'a> = &'a [Production<'a>];
 
 /// What is claimed of a nonterminal: whether it can become the empty text, the symbols that its
 /// texts can begin with, the symbols that can stand behind it, and a rank that shows that it has a
 /// text and doesn't begin with itself.
 #[derive(Clone, Copy, Drop)]
-pub struct Claim {
+pub struct Claim<'a> {
     pub symbol: Symbol,
     pub empty: bool,
-    pub first: Symbols,
-    pub follow: Symbols,
+    pub first: Symbols<'a>,
+    pub follow: Symbols<'a>,
     pub rank: u32,
 }
 
 /// Some claims.
-pub type Claims = &'static [Claim];
+pub type Claims<'a> = &'a [Claim<'a>];
 
 /// A grammar with claims on its nonterminals. `marked` are the nonterminals whose nodes count for
 /// the depth.
 #[derive(Clone, Copy, Drop)]
-pub struct Table {
+pub struct Table<'a> {
     pub terminals: Symbol,
     pub start: Symbol,
-    pub marked: Symbols,
-    pub productions: Productions,
-    pub claims: Claims,
+    pub marked: Symbols<'a>,
+    pub productions: Productions<'a>,
+    pub claims: Claims<'a>,
 }
 
 /// A table whose claims hold together, so that one symbol tells which production comes next. Only
 /// `check` makes one.
 #[derive(Drop)]
-pub struct CheckedTable {
-    pub(crate) table: Table,
+pub struct CheckedTable<'a> {
+    pub(crate) table: Table<'a>,
     ghost checked: { IsTrue (is_checked table) },
+}
+
+impl<'a> CheckedTable<'a> {
+    /// A table whose claims are known to hold together, without a look at them.
+    pub fn of(table: Table<'a>) -> CheckedTable<'a>
+        requires { IsTrue (is_checked table) }
+        ensures { result.table ≡ table.entry }
+    {
+        CheckedTable { table }
+    }
+
+    /// The table.
+    pub fn table(&self) -> Table<'a>
+        ensures { result ≡ self.now.table }
+    {
+        self.table
+    }
 }
 
 /// Why a text has no derivation: no text goes on with the symbol at a place, the end being one; too

@@ -57,7 +57,7 @@ const FACTORS: Symbol = 8;
 
 const FACTOR: Symbol = 9;
 
-pub(crate) const ARITHMETIC: Table = Table {
+pub(crate) const ARITHMETIC: Table<'static> = Table {
     terminals: 5,
     start: SUM,
     marked: &[SUM],
@@ -97,25 +97,25 @@ pub(crate) const ITEMS: Symbol = 3;
 
 const REST: Symbol = 4;
 
-const LIST: &[Production] = &[
+const LIST: &[Production<'static>] = &[
     production!(ITEMS, &[A, REST, ITEMS]),
     production!(ITEMS, &[]),
     production!(REST, &[B]),
     production!(REST, &[]),
 ];
 
-const ITEMS_CLAIM: Claim = claim!(ITEMS, true, &[A], &[END], 0);
+const ITEMS_CLAIM: Claim<'static> = claim!(ITEMS, true, &[A], &[END], 0);
 
-const REST_CLAIM: Claim = claim!(REST, true, &[B], &[A, END], 0);
+const REST_CLAIM: Claim<'static> = claim!(REST, true, &[B], &[A, END], 0);
 
 // The least claims, but for a rank that is higher than need be.
-pub(crate) const LEAST: Table = list_table!(
+pub(crate) const LEAST: Table<'static> = list_table!(
     LIST,
     &[ITEMS_CLAIM, claim!(REST, true, &[B], &[A, END], 7)]
 );
 
 // `c` can't stand behind a list or an item, but may be claimed to.
-pub(crate) const LARGER: Table = list_table!(
+pub(crate) const LARGER: Table<'static> = list_table!(
     LIST,
     &[
         claim!(ITEMS, true, &[A], &[END, C], 0),
@@ -126,37 +126,40 @@ pub(crate) const LARGER: Table = list_table!(
 // ---- tables that aren't taken
 
 // `b` isn't claimed to be a first symbol of the rest.
-pub(crate) const OPEN_FIRST: Table = list_table!(
+pub(crate) const OPEN_FIRST: Table<'static> = list_table!(
     LIST,
     &[ITEMS_CLAIM, claim!(REST, true, &[], &[A, END], 0)]
 );
 
 // `a` isn't claimed to stand behind the rest.
-pub(crate) const OPEN_FOLLOW: Table = list_table!(
+pub(crate) const OPEN_FOLLOW: Table<'static> = list_table!(
     LIST,
     &[ITEMS_CLAIM, claim!(REST, true, &[B], &[END], 0)]
 );
 
 // The rest isn't claimed to be empty.
-pub(crate) const OPEN_EMPTY: Table = list_table!(
+pub(crate) const OPEN_EMPTY: Table<'static> = list_table!(
     LIST,
     &[ITEMS_CLAIM, claim!(REST, false, &[B], &[A, END], 0)]
 );
 
 // The end isn't claimed to stand behind the start.
-pub(crate) const OPEN_END: Table = list_table!(
+pub(crate) const OPEN_END: Table<'static> = list_table!(
     LIST,
     &[claim!(ITEMS, true, &[A], &[], 0), REST_CLAIM]
 );
 
-pub(crate) const NO_CLAIM: Table = list_table!(LIST, &[ITEMS_CLAIM]);
+pub(crate) const NO_CLAIM: Table<'static> = list_table!(LIST, &[ITEMS_CLAIM]);
 
-pub(crate) const TWO_CLAIMS: Table = list_table!(LIST, &[ITEMS_CLAIM, REST_CLAIM, REST_CLAIM]);
+pub(crate) const TWO_CLAIMS: Table<'static> = list_table!(
+    LIST,
+    &[ITEMS_CLAIM, REST_CLAIM, REST_CLAIM]
+);
 
 // Nothing is claimed of a nonterminal that is marked, or stands in a first or a follow set.
 const OTHER: Symbol = 5;
 
-pub(crate) const NO_CLAIM_ON_MARKED: Table = Table {
+pub(crate) const NO_CLAIM_ON_MARKED: Table<'static> = Table {
     terminals: 3,
     start: ITEMS,
     marked: &[ITEMS, OTHER],
@@ -164,24 +167,24 @@ pub(crate) const NO_CLAIM_ON_MARKED: Table = Table {
     claims: &[ITEMS_CLAIM, REST_CLAIM],
 };
 
-pub(crate) const NO_CLAIM_ON_FIRST: Table = list_table!(
+pub(crate) const NO_CLAIM_ON_FIRST: Table<'static> = list_table!(
     LIST,
     &[ITEMS_CLAIM, claim!(REST, true, &[B, OTHER], &[A, END], 0)]
 );
 
-pub(crate) const NO_CLAIM_ON_FOLLOW: Table = list_table!(
+pub(crate) const NO_CLAIM_ON_FOLLOW: Table<'static> = list_table!(
     LIST,
     &[ITEMS_CLAIM, claim!(REST, true, &[B], &[A, END, OTHER], 0)]
 );
 
 // The list begins with itself.
-pub(crate) const LEFT_RECURSION: Table = list_table!(
+pub(crate) const LEFT_RECURSION: Table<'static> = list_table!(
     &[production!(ITEMS, &[ITEMS, A]), production!(ITEMS, &[B])],
     &[claim!(ITEMS, false, &[B], &[A, END], 0)]
 );
 
 // The list begins with itself behind what may be empty.
-pub(crate) const HIDDEN_RECURSION: Table = list_table!(
+pub(crate) const HIDDEN_RECURSION: Table<'static> = list_table!(
     &[
         production!(ITEMS, &[REST, ITEMS, A]),
         production!(REST, &[B]),
@@ -194,19 +197,19 @@ pub(crate) const HIDDEN_RECURSION: Table = list_table!(
 );
 
 // The list has no text: each has another one inside.
-pub(crate) const NO_TEXT: Table = list_table!(
+pub(crate) const NO_TEXT: Table<'static> = list_table!(
     &[production!(ITEMS, &[A, ITEMS])],
     &[claim!(ITEMS, false, &[A], &[END], 0)]
 );
 
 // The list is claimed to be empty and is not.
-pub(crate) const NEVER_EMPTY: Table = list_table!(
+pub(crate) const NEVER_EMPTY: Table<'static> = list_table!(
     &[production!(ITEMS, &[A])],
     &[claim!(ITEMS, true, &[A], &[END], 0)]
 );
 
 // Two alternatives begin with `a`.
-pub(crate) const ONE_FIRST: Table = list_table!(
+pub(crate) const ONE_FIRST: Table<'static> = list_table!(
     &[
         production!(ITEMS, &[A, REST]),
         production!(ITEMS, &[A]),
@@ -219,7 +222,7 @@ pub(crate) const ONE_FIRST: Table = list_table!(
 );
 
 // `b` begins the rest and stands behind it, where it may be missing.
-pub(crate) const FOLLOW_MEETS_FIRST: Table = list_table!(
+pub(crate) const FOLLOW_MEETS_FIRST: Table<'static> = list_table!(
     &[
         production!(ITEMS, &[A, REST, B]),
         production!(REST, &[B]),
@@ -232,23 +235,23 @@ pub(crate) const FOLLOW_MEETS_FIRST: Table = list_table!(
 );
 
 // Two alternatives are empty.
-pub(crate) const TWO_EMPTY: Table = list_table!(
+pub(crate) const TWO_EMPTY: Table<'static> = list_table!(
     &[production!(ITEMS, &[]), production!(ITEMS, &[])],
     &[claim!(ITEMS, true, &[], &[END], 0)]
 );
 
 // The end stands in a right side, in a first set, and among the marked ones.
-pub(crate) const END_INSIDE: Table = list_table!(
+pub(crate) const END_INSIDE: Table<'static> = list_table!(
     &[production!(ITEMS, &[A, END])],
     &[claim!(ITEMS, false, &[A], &[END], 0)]
 );
 
-pub(crate) const END_FIRST: Table = list_table!(
+pub(crate) const END_FIRST: Table<'static> = list_table!(
     LIST,
     &[claim!(ITEMS, true, &[A, END], &[], 0), REST_CLAIM]
 );
 
-pub(crate) const END_MARKED: Table = Table {
+pub(crate) const END_MARKED: Table<'static> = Table {
     terminals: 3,
     start: ITEMS,
     marked: &[END],
@@ -257,7 +260,7 @@ pub(crate) const END_MARKED: Table = Table {
 };
 
 // The start, or the left of a production, is a terminal.
-pub(crate) const TERMINAL_START: Table = Table {
+pub(crate) const TERMINAL_START: Table<'static> = Table {
     terminals: 3,
     start: A,
     marked: &[],
@@ -265,7 +268,7 @@ pub(crate) const TERMINAL_START: Table = Table {
     claims: &[ITEMS_CLAIM, REST_CLAIM],
 };
 
-pub(crate) const TERMINAL_LEFT: Table = list_table!(
+pub(crate) const TERMINAL_LEFT: Table<'static> = list_table!(
     &[production!(ITEMS, &[A]), production!(B, &[A])],
     &[claim!(ITEMS, false, &[A], &[END], 0)]
 );

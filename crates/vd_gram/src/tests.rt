@@ -6,7 +6,7 @@ use crate::{Cursor, Opened, ParseEnd, Symbol, Table, check, parse};
 use std::alloc::{AllocError, Global};
 use std::test::Fail;
 
-fn is_taken(table: Table) -> bool {
+fn is_taken(table: Table<'_>) -> bool {
     check(table).is_ok()
 }
 
@@ -44,7 +44,7 @@ fn show(out: &mut Vec<u32>, trees: &Cursor<'_>) -> Result<(), AllocError> {
 /// What `parse` answers, as numbers: those of the derivation; or 200 and a place; or 201; or 202.
 fn read(
     alloc: Global,
-    table: Table,
+    table: Table<'_>,
     symbols: &[Symbol],
     deep: u32,
 ) -> Result<Vec<u32>, AllocError> {
@@ -169,5 +169,24 @@ fn depth_is_met_and_passed(rt: HostRuntime) -> Result<(), Fail> {
     assert_eq!(rt; empty.as_slice(), [201].as_slice());
     let refused = read(rt.alloc(), LEAST, &[A, A, A, 7], 3)?;
     assert_eq!(rt; refused.as_slice(), [200, 3].as_slice());
+    Ok(())
+}
+
+#[test]
+fn a_long_text_is_read(rt: HostRuntime) -> Result<(), Fail> {
+    let mut symbols = Vec::new(rt.alloc());
+    for _ in 0..70000 {
+        symbols.push(A)?;
+    }
+    match check(LEAST) {
+        Err(_) => assert!(rt; false),
+        Ok(checked) => {
+            let answer = parse(rt.alloc(), &checked, &symbols, 80000);
+            assert!(rt; answer.is_ok());
+            symbols.push(C)?;
+            let answer = parse(rt.alloc(), &checked, &symbols, 80000);
+            assert!(rt; matches!(answer, Err(ParseEnd::At(70000))));
+        }
+    }
     Ok(())
 }

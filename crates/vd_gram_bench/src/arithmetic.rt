@@ -29,7 +29,7 @@ const FACTOR: Symbol = 9;
 
 /// A sum is a product and then addends, each with a plus sign in front; a product is a factor and
 /// then factors; and a factor is a number or a sum in brackets. Sums count for the depth.
-pub(crate) const ARITHMETIC: Table = Table {
+pub(crate) const ARITHMETIC: Table<'static> = Table {
     terminals: 5,
     start: SUM,
     marked: &[SUM],
@@ -107,7 +107,7 @@ pub(crate) const ARITHMETIC: Table = Table {
 };
 
 /// The table, which holds together, as `check` finds.
-pub(crate) fn arithmetic() -> Table
+pub(crate) fn arithmetic() -> Table<'static>
     ensures checked { IsTrue (is_checked result) }
     ensures grammar { IsSameGrammar result arithmetic_grammar }
 {

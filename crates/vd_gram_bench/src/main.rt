@@ -67,7 +67,7 @@ fn way_down(trees: &Cursor<'_>, by_last: bool) -> u32 {
 /// How many nodes stand above one another in a derivation, down by first parts and by last ones.
 fn answer(
     alloc: Global,
-    table: &CheckedTable,
+    table: &CheckedTable<'_>,
     kind: &str,
     count: u32,
 ) -> Result<(u32, u32), ParseEnd> {

@@ -4,8 +4,7 @@
 ghost use Rattle.std.specs.Prelude.{◌<◌, ◌≤◌, length};
 
 use anyhow::bail;
-use std::env;
-use std::fs;
+use std::{env, fs};
 use vd_bytes::Refusal;
 use vd_directives::plain::plain;
 use vd_lex::{Kind, Token, Tokens, lex19, lex93};

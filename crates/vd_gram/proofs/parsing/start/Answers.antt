@@ -7,4 +7,4 @@ pub returns : goal.returns
 returns c =
     stands_start c.args.checked.now.table c.args.checked.now.checked c.args.symbols.now c.args.deep _
     (c.in_ok-push.ensures ∙ ap (λ l. at_depth 0 (c.args.checked.now.table.start ∷ []) ++ l) c.new-stack.ensures)
-    c.new.ensures.items refl (c.new-2.ensures c.args.checked.now.table)
+    refl (c.new.ensures c.args.checked.now.table)

@@ -1,0 +1,2 @@
+pub mod DesignLemmas
+pub mod FormLemmas

@@ -1,0 +1,5 @@
+use Rattle.vd_grammar93.proofs.Checked.{grammar_is_checked}
+use Rattle.vd_grammar93.proofs.laws.is_checked_grammar.Goals as goal
+
+pub returns : goal.returns
+returns c = grammar_is_checked

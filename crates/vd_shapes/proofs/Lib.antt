@@ -1,0 +1,10 @@
+pub mod EntryLemmas
+pub mod FrameLemmas
+pub mod MachineLemmas
+pub mod StandingLemmas
+pub mod CountLemmas
+pub mod ShapeLemmas
+pub mod RowLemmas
+pub mod PlacedLemmas
+pub mod SymbolLemmas
+pub mod SameLemmas
