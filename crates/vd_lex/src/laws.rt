@@ -1,6 +1,7 @@
 //! Laws of the lexis.
 
 ghost use Rattle.vd_lex.specs.Lexis.{HasOneLexing, HasSomeLexing};
+ghost use Rattle.vd_lex.specs.Spelled.{ReadsSpellings};
 
 /// A text is read in one way only. So the answers of `lex19` and `lex93` are the only ones.
 pub fn one_lexing()
@@ -10,4 +11,9 @@ pub fn one_lexing()
 /// A text has a token list or a break.
 pub fn some_lexing()
     ensures { HasSomeLexing }
+{}
+
+/// The bytes of a token are read as this token and the end. So what `spell` gives is read back.
+pub fn spellings_read_back()
+    ensures { ReadsSpellings }
 {}
