@@ -76,7 +76,7 @@ undoubled-mark bs = refl
 
 undoubled-other : (b : ℕ) (bs : List ℕ) → eqb b 34 ≡ false → undoubled (b ∷ bs) ≡ b ∷ undoubled bs
 undoubled-other b [] e = refl
-undoubled-other b (c ∷ cs) e = ap (λ t. elim t as (λ _. List ℕ) [ | true ↦ b ∷ undoubled cs | false ↦ b ∷ undoubled (c ∷ cs) ]) e
+undoubled-other b (c ∷ cs) e = ap (λ t. elim t as (λ _. List ℕ) [ true ↦ b ∷ undoubled cs | false ↦ b ∷ undoubled (c ∷ cs) ]) e
 
 pub undoubled-doubled : (text : List ℕ) → undoubled (doubled text) ≡ text
 undoubled-doubled [] = refl

@@ -263,7 +263,7 @@ text_marks_whole r text g p =
 
 bits_form_whole : (r : Revision) (text : List ℕ) → list_all (is_bit r) text ≡ true → bits_form r 0 (66 ∷ 34 ∷ (doubled text ++ 34 ∷ [])) ≡ bits.Whole Plain 1 2 (2 + (length (doubled text) + 1) - 1)
 bits_form_whole r text h =
-    ap (λ o. elim o as (λ _. BitsForm) [ | Some n ↦ bits.Whole Plain 1 2 (2 + n - 1) | None ↦ elim (marks_end false Start (doubled text ++ 34 ∷ [])) as (λ _. BitsForm) [ | Some n ↦ bits.Absent | None ↦ bits.Unended ] ]) (whole_end true Start text refl (bits_go r text h))
+    ap (λ o. elim o as (λ _. BitsForm) [ Some n ↦ bits.Whole Plain 1 2 (2 + n - 1) | None ↦ elim (marks_end false Start (doubled text ++ 34 ∷ [])) as (λ _. BitsForm) [ Some n ↦ bits.Absent | None ↦ bits.Unended ] ]) (whole_end true Start text refl (bits_go r text h))
 
 bits_whole : (r : Revision) (text : List ℕ) → list_all (is_bit r) text ≡ true → IsReadWhole r kind.Bits text (66 ∷ 34 ∷ (doubled text ++ 34 ∷ []))
 bits_whole r text h p =
@@ -271,12 +271,14 @@ bits_whole r text h p =
     let whole = 66 ∷ 34 ∷ rest in
     let l = length-append (doubled text) (34 ∷ []) in
     let e : 2 + (length (doubled text) + 1) - 1 + 1 ≡ length whole = omega (arith, l) in
-    let f : 2 + (length (doubled text) + 1) - 1 - 2 ≡ length (doubled text) + 1 - 1 = omega arith in
-    (omega arith, letter_piece r p 66 (34 ∷ rest) (length whole) kind.Bits text refl
-    (ap (bits_or r whole None (word_item r (1 + more_length true (34 ∷ rest)) whole)) (bits_form_whole r text h)
-    ∙ (ap (λ k. bits_item (2 + (length (doubled text) + 1) - 1 + 1) (bits_text r Plain 1 None (undoubled (take k rest)))) f
-    ∙ (ap (λ t. bits_item (2 + (length (doubled text) + 1) - 1 + 1) (bits_text r Plain 1 None t)) (body_is text)
-    ∙ (ap (bits_item (2 + (length (doubled text) + 1) - 1 + 1)) (text_whole r text h) ∙ ap (λ n. token n kind.Bits text) e)))))
+    let f : 2 + (length (doubled text) + 1) - 1 - 2 ≡ length (doubled text) + 1 - 1 = omega arith in (
+      omega arith,
+      letter_piece r p 66 (34 ∷ rest) (length whole) kind.Bits text refl
+          (ap (bits_or r whole None (word_item r (1 + more_length true (34 ∷ rest)) whole)) (bits_form_whole r text h)
+          ∙ (ap (λ k. bits_item (2 + (length (doubled text) + 1) - 1 + 1) (bits_text r Plain 1 None (undoubled (take k rest)))) f
+          ∙ (ap (λ t. bits_item (2 + (length (doubled text) + 1) - 1 + 1) (bits_text r Plain 1 None t)) (body_is text)
+          ∙ (ap (bits_item (2 + (length (doubled text) + 1) - 1 + 1)) (text_whole r text h) ∙ ap (λ n. token n kind.Bits text) e)))),
+    )
 
 mark_whole : (r : Revision) (n : ℕ) (text : List ℕ) → n < length (marks r) → (n ≡ 1 → ⊥) → text ≡ [] → IsReadWhole r (kind.Mark n) text (get_or (marks V2019) n [])
 mark_whole r n text h other e p =
