@@ -4,6 +4,7 @@ pub mod MarkLemmas
 pub mod PossibleLemmas
 pub mod ReadLemmas
 pub mod SizeLemmas
+pub mod SpelledLemmas
 pub mod SpellingLemmas
 pub mod TableLemmas
 pub mod TextLemmas

@@ -89,7 +89,7 @@ undoubled-doubled (b ∷ bs) = by (eqb b 34) refl (undoubled-doubled bs)
 one_less : (n : ℕ) → n + 1 - 1 ≡ n
 one_less n = omega arith
 
-body_is : (text : List ℕ) → undoubled (take (length (doubled text) + 1 - 1) (doubled text ++ 34 ∷ [])) ≡ text
+pub body_is : (text : List ℕ) → undoubled (take (length (doubled text) + 1 - 1) (doubled text ++ 34 ∷ [])) ≡ text
 body_is text =
     ap (λ n. undoubled (take n (doubled text ++ 34 ∷ []))) (one_less (length (doubled text)))
     ∙ (ap undoubled (take-append_seam (doubled text) (34 ∷ [])) ∙ undoubled-doubled text)
@@ -113,7 +113,7 @@ bit_goes V1993 b h = zero_or_one b h
     zero_or_one : (c : ℕ) → (eqb c 48 || eqb c 49) ≡ true → goes_in true c ≡ true
     zero_or_one c e = grind (arith, nat_tests)
 
-bits_go : (r : Revision) (text : List ℕ) → list_all (is_bit r) text ≡ true → list_all (goes_in true) text ≡ true
+pub bits_go : (r : Revision) (text : List ℕ) → list_all (is_bit r) text ≡ true → list_all (goes_in true) text ≡ true
 bits_go r [] h = refl
 bits_go r (b ∷ bs) h = let p = and_parts (is_bit r b) (list_all (is_bit r) bs) h in and_from (goes_in true b) _ (bit_goes r b p.0) (bits_go r bs p.1)
 
@@ -144,5 +144,5 @@ all_taken V1993 (b ∷ bs) h =
     let p = and_parts (is_bit V1993 b) (list_all (is_bit V1993) bs) h in
     and_from (is_taken V1993 1 b) _ (bit_taken b p.0) (all_taken V1993 bs p.1)
 
-text_whole : (r : Revision) (text : List ℕ) → list_all (is_bit r) text ≡ true → bits_text r Plain 1 None text ≡ Some text
+pub text_whole : (r : Revision) (text : List ℕ) → list_all (is_bit r) text ≡ true → bits_text r Plain 1 None text ≡ Some text
 text_whole r text h = cond-true (list_all (is_taken r 1) text) (Some (elements 1 text)) None (all_taken r text h) ∙ ap Some (same_elements text (bits_go r text h))

@@ -88,7 +88,7 @@ module _ (r : Revision) (b : ℕ) (bs : List ℕ) (l : is_letter b ≡ true) (re
 
 -- ---- numbers
 
-digit_part : (c : ℕ) → digit_value c < 10 → is_digit c ≡ true
+pub digit_part : (c : ℕ) → digit_value c < 10 → is_digit c ≡ true
 digit_part c h = grind (arith, nat_tests)
 
 digit_no_underscore : (c : ℕ) → digit_value c < 10 → eqb c 95 ≡ false

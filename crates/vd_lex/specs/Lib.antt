@@ -3,3 +3,4 @@ pub mod Lexis
 pub mod Pieces
 pub mod Scans
 pub mod Spelled
+pub mod WorkedItems
