@@ -1,0 +1,10 @@
+use Rattle.std.proofs.Common.{◌≡◌, ◌++◌, drop}
+use Rattle.vd_regions.specs.Found.{given}
+use Rattle.vd_regions.proofs.regions.Regions.add_given.Given as goal
+
+abbrev pub invariant-loop-region : goal.invariant-loop-region
+invariant-loop-region l = record {
+  name : l.key.name.items ≡ l.fn.key.name.items;
+  same : l.found.items ++ given l.self l.fn.key.name.items (drop l.region-index l.regions)
+      ≡ l.fn.found.items ++ given l.self l.fn.key.name.items l.regions;
+}

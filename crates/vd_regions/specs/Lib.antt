@@ -1,0 +1,5 @@
+pub mod Scopes
+pub mod Homographs
+pub mod Visible
+pub mod Links
+pub mod Found

@@ -1,0 +1,31 @@
+-- The tables as code keeps them: from a region and a name to the newest declaration, and from each declaration to the one before it
+-- in its table. Numbers count from 1 here, and 0 is none.
+use Rattle.std.specs.Prelude.{ℕ, zero, suc, ◌==◌, Bool, ◌&&◌, List, map, if◌then◌else◌, slice_index_or}
+use Rattle.std.specs.Str.{bytes_eq}
+use Rattle.vd_regions.specs.declared.entries.Entered.{Entered}
+use Rattle.vd_regions.specs.declared.entries.Link.{Link}
+use Rattle.vd_regions.specs.declared.entries.Key.{Key}
+use Rattle.vd_regions.specs.declared.entries.Space.{Space}
+use Rattle.vd_regions.specs.Scopes.{Region, nothing_entered, stands_in}
+
+-- the newest of the first k declarations that pass a test
+abbrev pub newest_below : (Entered → Bool) → List Entered → ℕ → ℕ
+newest_below test es zero = 0
+newest_below test es (suc k) = if test (slice_index_or es k nothing_entered) then suc k else newest_below test es k
+
+abbrev pub no_link : Link
+no_link = record { entered = nothing_entered; before = 0 }
+
+abbrev pub entered_of : List Link → List Entered
+entered_of links = map (λ l. l.entered) links
+
+-- as the derived comparison of keys
+abbrev pub same_key : Key → Key → Bool
+same_key a b = (a.region == b.region) && bytes_eq a.name.items b.name.items
+
+abbrev pub region_of : Space → Region
+region_of p = record { outer = p.outer; closed = p.closed; uses = p.uses }
+
+-- the table that a declaration stands in
+abbrev pub table_of : Entered → Entered → Bool
+table_of e = stands_in e.region e.declaration.name

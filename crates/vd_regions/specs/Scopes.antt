@@ -1,0 +1,60 @@
+-- Regions, the declarations in them, and their use clauses, in the order in which they were entered. This is all that contracts see
+-- of `Regions`. A region and a declaration are numbers, and the region round another is older than it.
+use Rattle.std.specs.Prelude.{ℕ, zero, suc, ◌==◌, ◌&&◌, Bool, false, List, [], ◌∷◌, Option, None, if◌then◌else◌, slice_index_or}
+use Rattle.std.specs.Str.{bytes_eq}
+use Rattle.vd_bytes.specs.declared.places.Place.{Place}
+use Rattle.vd_declarations.specs.declared.declarations.Declaration.{Declaration}
+use Rattle.vd_declarations.specs.declared.classes.Class.TheVariants as class
+use Rattle.vd_declarations.specs.declared.classes.Made.TheVariants as made
+use Rattle.vd_regions.specs.declared.entries.Entered.{Entered}
+
+-- a use clause: all declarations of a region, or those of a name
+pub record Clause : Type 0 where
+  pub from : ℕ
+  pub name : Option (List ℕ)
+
+-- a region: the one round it, whether its end is reached, and its use clauses
+pub record Region : Type 0 where
+  pub outer : ℕ
+  pub closed : Bool
+  pub uses : List Clause
+
+pub record Scopes : Type 0 where
+  pub entered : List Entered
+  pub regions : List Region
+
+abbrev pub no_region : Region
+no_region = record { outer = 0; closed = false; uses = [] }
+
+abbrev pub first_place : Place
+first_place = record { file = 0; line = 1; column = 1 }
+
+abbrev pub no_declaration : Declaration
+no_declaration =
+    record { class = class.Label; name = []; mark = None; parameters = []; inside = None; place = first_place; made = made.Written; wanted = [] }
+
+abbrev pub nothing_entered : Entered
+nothing_entered = record { region = 0; declaration = no_declaration }
+
+abbrev pub region_at : Scopes → ℕ → Region
+region_at s r = slice_index_or s.regions r no_region
+
+abbrev pub entered_at : Scopes → ℕ → Entered
+entered_at s k = slice_index_or s.entered k nothing_entered
+
+abbrev pub declaration_at : Scopes → ℕ → Declaration
+declaration_at s k = (entered_at s k).declaration
+
+-- it stands in the region under the name
+abbrev pub stands_in : ℕ → List ℕ → Entered → Bool
+stands_in region name e = (e.region == region) && bytes_eq e.declaration.name name
+
+-- the region and those round it, from the innermost outwards, no more than so many
+abbrev pub chain_of : ℕ → Scopes → ℕ → List ℕ
+chain_of zero s region = []
+chain_of (suc n) s region = region ∷ (if region == 0 then [] else chain_of n s (region_at s region).outer)
+
+-- each region round another has a smaller number, so that there are no more than the region's number says, and the region of the
+-- libraries
+abbrev pub chain : Scopes → ℕ → List ℕ
+chain s region = chain_of (suc region) s region

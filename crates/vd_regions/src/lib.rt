@@ -1,0 +1,9 @@
+//! Declarative regions and what is visible in them. (IEEE 1076, scope and visibility)
+#![tactic(auto)]
+
+pub mod entries;
+mod finding;
+pub mod regions;
+mod tables;
+
+pub use regions::{EnterEnd, Regions};

@@ -1,0 +1,260 @@
+//! Regions inside one another, their declarations and use clauses.
+
+ghost use Rattle.std.specs.Prelude.{◌≡◌, ◌↔◌, ◌<◌, ◌++◌, ◌∷◌, ℕ, [], List, OnOk, OnErr, IfOk, Ok, Err, Some, None, true, false, length, option_map};
+ghost use Rattle.std.specs.List.{Contains};
+ghost use Rattle.std.specs.List.Sorted.{IsStrictlyIncreasing};
+ghost use lib.ListN.{set as slice_set_at};
+ghost use Rattle.vd_regions.specs.Scopes.{Scopes, Region, Clause, region_at, declaration_at};
+ghost use Rattle.vd_regions.specs.Homographs.{homograph};
+ghost use Rattle.vd_regions.specs.Visible.{IsVisible, IsSelected};
+
+use crate::entries::{Entered, Key, Link, Space, UseClause, UseClauses};
+use crate::finding::{ids_of, put_in_order};
+use crate::tables::key_of;
+use indexmap::IndexMap;
+use std::alloc::{AllocError, Global};
+use std::marker::Model;
+use vd_bytes::Text;
+use vd_declarations::{DeclId, Declaration, RegionId};
+
+/// Regions inside one another, the declarations in them, and their use clauses. Numbers of regions and declarations are never
+/// given back.
+#[derive(Drop)]
+pub struct Regions {
+    pub(crate) alloc: Global,
+    pub(crate) links: Vec<Link>,
+    pub(crate) spaces: Vec<Space>,
+    pub(crate) newest: IndexMap<Key, u32>,
+}
+
+impl Model for Regions {
+    ghost use Rattle.std.specs.Prelude.{◌≡◌, ◌<◌, ℕ, List, map, length, slice_index_or};
+    ghost use Rattle.std.specs.Option.{unwrap_or};
+    ghost use Rattle.indexmap.specs.IndexMap.{get};
+    ghost use Rattle.vd_regions.specs.Scopes.{Scopes, stands_in};
+    ghost use Rattle.vd_regions.specs.declared.entries.Key.{Key};
+    ghost use Rattle.vd_regions.specs.Links.{newest_below, table_of, entered_of, no_link, same_key, region_of};
+
+    ghost Value = { Scopes };
+
+    ghost view = { λ a. record { entered = entered_of a.links.items; regions = map region_of a.spaces.items } };
+
+    // Each table leads to its newest declaration, and each declaration to the one before it in its table.
+    ghost invariant = { λ a.
+        ((key : Key) → unwrap_or (get same_key a.newest key) 0
+        ≡ newest_below (stands_in key.region key.name.items) (entered_of a.links.items) (length a.links.items))
+        × ((k : ℕ) → k < length a.links.items → (slice_index_or a.links.items k no_link).before
+        ≡ newest_below (table_of (slice_index_or a.links.items k no_link).entered) (entered_of a.links.items) k) };
+}
+
+/// Why a declaration wasn't entered.
+#[derive(Clone, Copy, PartialEq, Eq, Debug, Drop)]
+pub enum EnterEnd {
+    /// The region has a declaration of the name already, and this one may not stand beside it. The first such declaration.
+    Homograph(DeclId),
+    Memory,
+}
+
+impl From<AllocError> for EnterEnd {
+    ghost use Rattle.vd_regions.specs.declared.regions.EnterEnd.TheVariants.{Memory};
+
+    ghost from_gives = { λ _ end. end ≡ Memory };
+
+    fn from(_: AllocError) -> Self {
+        EnterEnd::Memory
+    }
+}
+
+// A number that fits, unless there is no more room.
+pub(crate) fn narrow(number: usize) -> Result<u32, AllocError>
+    ensures { IfOk result (λ n. n ≡ number) }
+{
+    match u32::try_from(number) {
+        Ok(number) => Ok(number),
+        Err(_) => Err(AllocError),
+    }
+}
+
+// A name of one's own.
+fn owned(alloc: Global, name: Option<&str>) -> Result<Option<Text>, AllocError>
+    ensures { IfOk result (λ text. text ≡ option_map (λ n. n.now) name.entry) }
+{
+    match name {
+        Some(name) => {
+            let text = Text::from_slice(alloc, name.as_bytes())?;
+            Ok(Some(text))
+        }
+        None => Ok(None),
+    }
+}
+
+impl Regions {
+    /// The region of the libraries alone, with nothing in it.
+    pub fn new(alloc: Global) -> Result<Self, AllocError>
+        ensures { IfOk result (λ regions. regions ≡ record { entered = []; regions = record { outer = 0; closed = false; uses = [] } ∷ [] }) }
+    {
+        let mut spaces = Vec::new(alloc);
+        spaces.push(Space {
+            outer: 0,
+            closed: false,
+            uses: UseClauses::new(alloc),
+        })?;
+        Ok(Regions {
+            alloc,
+            links: Vec::new(alloc),
+            spaces,
+            newest: IndexMap::new(alloc),
+        })
+    }
+
+    /// The region of the libraries.
+    pub fn root(&self) -> RegionId
+        ensures { result ≡ 0 }
+    {
+        RegionId::of(0)
+    }
+
+    /// A new region inside another.
+    pub fn nest(&mut self, outer: RegionId) -> Result<RegionId, AllocError>
+        requires { outer < length self.old.regions }
+        ensures nested { IfOk result (λ region. (region ≡ length self.old.regions)
+            × (self.new ≡ record self.old { regions = self.old.regions ++ record { outer = outer; closed = false; uses = [] } ∷ [] })) }
+        ensures unchanged { OnErr result (self.new ≡ self.old) }
+    {
+        let region = narrow(self.spaces.len())?;
+        self.spaces.push(Space {
+            outer: outer.number(),
+            closed: false,
+            uses: UseClauses::new(self.alloc),
+        })?;
+        Ok(RegionId::of(region))
+    }
+
+    /// A use clause in a region: of a name that another region declares, or of all that it declares.
+    pub fn use_name(
+        &mut self,
+        region: RegionId,
+        from: RegionId,
+        name: Option<&str>,
+    ) -> Result<(), AllocError>
+        requires { region < length self.old.regions }
+        ensures used { OnOk result (self.new ≡ record self.old {
+          regions = slice_set_at self.old.regions region
+              (record (region_at self.old region) { uses = (region_at self.old region).uses ++ record { from = from; name = option_map (λ n. n.now) name.entry } ∷ [] });
+        }) }
+        ensures unchanged { OnErr result (self.new ≡ self.old) }
+    {
+        let name = owned(self.alloc, name)?;
+        let clause = UseClause {
+            from: from.number(),
+            name,
+        };
+        self.spaces[region.number() as usize].uses.push(clause)?;
+        Ok(())
+    }
+
+    /// The end of a region is reached.
+    pub fn close(&mut self, region: RegionId)
+        requires { region < length self.old.regions }
+        ensures { self.new ≡ record self.old { regions = slice_set_at self.old.regions region (record (region_at self.old region) { closed = true }) } }
+    {
+        self.spaces[region.number() as usize].closed = true;
+    }
+
+    /// The declaration that was entered under a number.
+    pub fn declaration(&self, id: DeclId) -> &Declaration
+        requires { id < length self.now.entered }
+        ensures { result.now ≡ declaration_at self.now id }
+    {
+        &self.links[id.number() as usize].entered.declaration
+    }
+
+    /// Puts a declaration into a region, under its name. It is visible there from now on.
+    pub fn enter(
+        &mut self,
+        region: RegionId,
+        name: &str,
+        declared: Declaration,
+    ) -> Result<DeclId, EnterEnd>
+        requires own_name { name.now ≡ declared.name }
+        ensures entered { IfOk result (λ id. (id ≡ length self.old.entered)
+            × (self.new ≡ record self.old { entered = self.old.entered ++ record { region = region; declaration = declared } ∷ [] })) }
+        ensures free { OnOk result (homograph self.old region declared ≡ None) }
+        ensures taken { (id : ℕ) → result ≡ Err (EnterEnd.Homograph id) → homograph self.old region declared ≡ Some id }
+        ensures unchanged { OnErr result (self.new ≡ self.old) }
+    {
+        let key = key_of(self.alloc, region.number(), name.as_bytes())?;
+        if let Some(first) = self.first_clash(&key, &declared) {
+            return Err(EnterEnd::Homograph(DeclId::of(first)));
+        }
+        let before = self.newest(&key);
+        let id = narrow(self.links.len())?;
+        if id == u32::MAX {
+            return Err(EnterEnd::Memory);
+        }
+        let entered = Entered {
+            region: region.number(),
+            declaration: declared,
+        };
+        if let Err(_) = self.links.push(Link { entered, before }) {
+            return Err(EnterEnd::Memory);
+        }
+        match self.newest.insert(key, id + 1) {
+            Ok(_) => Ok(DeclId::of(id)),
+            Err(_) => {
+                self.links.truncate(id as usize);
+                Err(EnterEnd::Memory)
+            }
+        }
+    }
+
+    /// What is visible in a region by its name, in the order in which it was entered.
+    pub fn visible(
+        &self,
+        alloc: Global,
+        region: RegionId,
+        name: &str,
+    ) -> Result<Vec<DeclId>, AllocError>
+        ensures in_order { IfOk result (λ found. IsStrictlyIncreasing found.items) }
+        ensures all { IfOk result (λ found. (k : ℕ) → Contains found.items k ↔ IsVisible self.now region name.now k) }
+    {
+        let regions = self.chain(alloc, region.number())?;
+        let mut key = key_of(alloc, 0, name.as_bytes())?;
+        let mut around = Vec::new(alloc);
+        self.add_round(alloc, &mut key, &regions, &mut around)?;
+        let mut given = Vec::new(alloc);
+        self.add_given(alloc, &mut key, &regions, &mut given)?;
+        put_in_order(&mut given)?;
+        let mut found = Vec::new(alloc);
+        self.add_direct(alloc, &mut key, &regions, &mut found)?;
+        self.add_by_use(&around, &given, &mut found)?;
+        put_in_order(&mut found)?;
+        let ids = ids_of(alloc, &found)?;
+        Ok(ids)
+    }
+
+    /// What a name means at a place behind the name of a library, a unit or a record type, in the order in which it was entered: `prefix` is
+    /// the declaration of that.
+    pub fn selected(
+        &self,
+        alloc: Global,
+        place: RegionId,
+        prefix: DeclId,
+        name: &str,
+    ) -> Result<Vec<DeclId>, AllocError>
+        ensures in_order { IfOk result (λ found. IsStrictlyIncreasing found.items) }
+        ensures all { IfOk result (λ found. (k : ℕ) → Contains found.items k ↔ IsSelected self.now place prefix name.now k) }
+    {
+        let mut found = Vec::new(alloc);
+        self.add_selected(
+            alloc,
+            place.number(),
+            prefix.number(),
+            name.as_bytes(),
+            &mut found,
+        )?;
+        put_in_order(&mut found)?;
+        let ids = ids_of(alloc, &found)?;
+        Ok(ids)
+    }
+}
