@@ -28,7 +28,9 @@ impl DeclId {
     pub fn of(number: u32) -> DeclId
         ensures { result ≡ number }
     {
-        DeclId { declaration: number }
+        DeclId {
+            declaration: number,
+        }
     }
 
     /// Its number.
@@ -63,7 +65,9 @@ impl TypeId {
     pub fn of(number: u32) -> TypeId
         ensures { result ≡ number }
     {
-        TypeId { declaration: number }
+        TypeId {
+            declaration: number,
+        }
     }
 
     /// The number of its declaration.

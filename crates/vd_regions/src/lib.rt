@@ -5,5 +5,7 @@ pub mod entries;
 mod finding;
 pub mod regions;
 mod tables;
+#[cfg(test)]
+mod tests;
 
 pub use regions::{EnterEnd, Regions};
