@@ -8,8 +8,8 @@ use Rattle.vd_forest.specs.Forest.{Forest, nothing, more, with_next}
 use Rattle.vd_forms.specs.declared.form.Form.{Form}
 use Rattle.vd_forms.specs.declared.form.Form.TheVariants as form
 use Rattle.vd_forms.specs.Forms.{form_number, same_form, is_among, expressions}
-use Rattle.vd_forms.specs.Slots.{Slot, One, Many, slots_of}
-use Rattle.vd_forms.specs.Validity.{forms_of, fits, is_form_of, HasText, is_one_expression, is_bracketed, holders_of_actuals, keeps_brackets, AreValid}
+use Rattle.vd_forms.specs.Slots.{Slot, One, Many}
+use Rattle.vd_forms.specs.Validity.{forms_of, fits, is_one_expression, is_bracketed, holders_of_actuals, keeps_brackets, AreValid}
 use Rattle.vd_shapes.specs.Shapes.{without_brackets, unbracketed, settled}
 use Rattle.vd_valid_shapes.specs.Effects.{are_among, brackets_can_go}
 use Rattle.vd_valid_shapes.proofs.SlotLemmas.{same_number, among_all}

@@ -1,5 +1,5 @@
 -- Shapes of derivations are designs.
-use Rattle.std.proofs.Common.{◌≡◌, ℕ, zero, suc, ◌+◌, Bool, true, false, ◌&&◌, nat_lt, not, ◌==◌, inl, inr, if◌then◌else◌, List, [], ◌∷◌, ◌++◌, length, drop, Option, Some, None, slice_get, slice_index_or, IsTrue, refl, sym, ap, subst, ◌∙◌, arith, append-nil, append_assoc}
+use Rattle.std.proofs.Common.{◌≡◌, ℕ, zero, suc, ◌+◌, Bool, true, false, ◌&&◌, nat_lt, not, ◌==◌, inl, inr, if◌then◌else◌, List, [], ◌∷◌, ◌++◌, length, drop, Option, Some, None, slice_get, slice_index_or, refl, sym, ap, subst, ◌∙◌, arith, append-nil, append_assoc}
 use Rattle.std.specs.List.{AllByRecursion}
 use Rattle.std.proofs.lemmas.Bool.{and_parts, or_cases, false≢true}
 use Rattle.std.proofs.lemmas.List.{drop-drop, drop_at}
@@ -12,21 +12,21 @@ use Rattle.vd_tokens.specs.Spellings.{IsTextOf, IsPossible}
 use Rattle.vd_gram.specs.declared.tables.Production.{Production}
 use Rattle.vd_gram.specs.declared.tables.Table.{Table}
 use Rattle.vd_gram.specs.Claims.{is_terminal, end_symbol}
-use Rattle.vd_gram.specs.Derivations.{Trees, nothing as no_tree, leaf, node, yield, Derive, IsDerivation}
+use Rattle.vd_gram.specs.Derivations.{Trees, nothing as no_tree, leaf, node, yield, Derive}
 use Rattle.vd_forest.specs.Forest.{Forest, nothing, more, reversed}
 use Rattle.vd_forms.specs.declared.form.Form.{Form}
 use Rattle.vd_forms.specs.declared.form.Form.TheVariants as form
 use Rattle.vd_forms.specs.Forms.{form_number, same_form, is_among}
-use Rattle.vd_forms.specs.Slots.{Slot, Many, slots_of, file_slots}
-use Rattle.vd_forms.specs.Validity.{forms_of, fits, is_form_of, HasText, is_bracketed, is_one_expression, AreValid, IsDesign}
+use Rattle.vd_forms.specs.Slots.{slots_of, file_slots}
+use Rattle.vd_forms.specs.Validity.{forms_of, fits, is_form_of, HasText, is_bracketed, is_one_expression, AreValid}
 use Rattle.vd_shapes.specs.declared.actions.Action.{Action}
 use Rattle.vd_shapes.specs.declared.actions.Action.TheVariants.{Splice}
-use Rattle.vd_shapes.specs.Shapes.{text_in, text_at, leaf_form, action_of, with_leaf, acted, start_of, grown, shape}
+use Rattle.vd_shapes.specs.Shapes.{text_in, text_at, leaf_form, action_of, with_leaf, acted, start_of, grown}
 use Rattle.vd_shapes.specs.Reading.{symbol_of, symbols_in}
-use Rattle.vd_valid_shapes.specs.Effects.{are_covered, Effect, Push, leaf_slots, claimed_effect, effect_of, can_follow, does_as_claimed, all_do_as_claimed, starts_with_units, makes_valid_trees}
+use Rattle.vd_valid_shapes.specs.Effects.{are_covered, Effect, Push, leaf_slots, claimed_effect, effect_of, does_as_claimed, all_do_as_claimed, starts_with_units, makes_valid_trees}
 use Rattle.vd_valid_shapes.specs.Laws.{ShapesAreDesigns, ShapesOfShownTablesAreDesigns}
 use Rattle.vd_valid_shapes.proofs.SlotLemmas.{same_number, covered, one_fits}
-use Rattle.vd_valid_shapes.proofs.EffectLemmas.{stack, forms_reversed, valid_turned, Does, Follow, follow_more, acts, Said, Stand}
+use Rattle.vd_valid_shapes.proofs.EffectLemmas.{stack, forms_reversed, valid_turned, Does, Follow, follow_more, acts, Said}
 
 -- ---- the texts of leaves
 

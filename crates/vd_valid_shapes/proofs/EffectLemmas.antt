@@ -6,12 +6,12 @@ use Rattle.vd_tokens.specs.Lexemes.{Lexeme}
 use Rattle.vd_gram.specs.declared.tables.Table.{Table}
 use Rattle.vd_forest.specs.Forest.{Forest, nothing, more, joined, turned, reversed}
 use Rattle.vd_forms.specs.declared.form.Form.{Form}
-use Rattle.vd_forms.specs.Slots.{Slot, One, Many, slots_of}
+use Rattle.vd_forms.specs.Slots.{Slot, slots_of}
 use Rattle.vd_forms.specs.Validity.{forms_of, fits, is_form_of, leaf_kind, IsTextAt, HasText, keeps_brackets, AreValid}
 use Rattle.vd_forms.proofs.DesignLemmas.{turned_twice}
 use Rattle.vd_shapes.specs.declared.actions.Action.{Action}
 use Rattle.vd_shapes.specs.declared.actions.Action.TheVariants.{Splice, Make, Wrap, Group}
-use Rattle.vd_shapes.specs.Shapes.{settled, with_node, acted}
+use Rattle.vd_shapes.specs.Shapes.{with_node, acted}
 use Rattle.vd_valid_shapes.specs.Effects.{are_covered, brackets_can_go, one_of, with_behind, Effect, Push, Turn, effect_of, can_happen, can_follow, makes_valid, does_as_claimed}
 use Rattle.vd_valid_shapes.proofs.SlotLemmas.{covered, one_fits, behind}
 use Rattle.vd_valid_shapes.proofs.BracketLemmas.{settled_valid, settled_fits}
