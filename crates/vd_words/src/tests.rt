@@ -16,7 +16,7 @@ struct Taken<'a> {
     files: &'a [&'a str],
 }
 
-static TAKEN: [Taken<'static>; 13] = [
+static TAKEN: [Taken<'static>; 16] = [
     Taken {
         words: &[
             "--do",
@@ -158,9 +158,36 @@ static TAKEN: [Taken<'static>; 13] = [
         tool_type: "SIMULATION",
         files: &["e.vhd"],
     },
+    Taken {
+        words: &["--do=convert", "--", "--do", "check"],
+        mode: Mode::Convert,
+        top: "",
+        cycles: 100,
+        units: 10,
+        tool_type: "SIMULATION",
+        files: &["--do", "check"],
+    },
+    Taken {
+        words: &["--top=e=x", "--do=run93"],
+        mode: Mode::Run93,
+        top: "e=x",
+        cycles: 100,
+        units: 10,
+        tool_type: "SIMULATION",
+        files: &[],
+    },
+    Taken {
+        words: &["--do", "convert", ""],
+        mode: Mode::Convert,
+        top: "",
+        cycles: 100,
+        units: 10,
+        tool_type: "SIMULATION",
+        files: &[""],
+    },
 ];
 
-static REFUSED: [&[&str]; 40] = [
+static REFUSED: [&[&str]; 44] = [
     &[
         "-",
         "--top",
@@ -263,6 +290,10 @@ static REFUSED: [&[&str]; 40] = [
     &["--do", "remap", "--do", "e.vhd"],
     &["--version", "--cycles=00", "--do=run19", "--top=E(RTL)"],
     &["-", "--do", "--do", "bulk"],
+    &["--do=convert", "--do=convert", "e.vhd"],
+    &["--cycles=1", "--do", "convert", "--cycles", "1", "e.vhd"],
+    &["--do=convert", "--cycles=05", "e.vhd"],
+    &["--do", "convert", "--top=e", "e.vhd"],
 ];
 
 fn words_of(alloc: Global, texts: &[&str]) -> Result<Vec<String>, AllocError> {
