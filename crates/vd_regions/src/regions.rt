@@ -1,6 +1,6 @@
 //! Regions inside one another, their declarations and use clauses.
 
-ghost use Rattle.std.specs.Prelude.{◌≡◌, ◌↔◌, ◌<◌, ◌++◌, ◌∷◌, ℕ, [], List, OnOk, OnErr, IfOk, Ok, Err, Some, None, true, false, length, option_map};
+ghost use Rattle.std.specs.Prelude.{◌≡◌, ◌↔◌, ◌<◌, ◌++◌, ◌∷◌, ℕ, [], List, OnOk, OnErr, IfOk, Ok, Err, Some, None, true, false, length, nat_lt, option_map};
 ghost use Rattle.std.specs.List.{Contains};
 ghost use Rattle.std.specs.List.Sorted.{IsStrictlyIncreasing};
 ghost use lib.ListN.{set as slice_set_at};
@@ -112,6 +112,13 @@ impl Regions {
         ensures { result ≡ 0 }
     {
         RegionId::of(0)
+    }
+
+    /// Whether this value gave out the region.
+    pub fn is_region(&self, region: RegionId) -> bool
+        ensures { result ≡ nat_lt region (length self.now.regions) }
+    {
+        (region.number() as usize) < self.spaces.len()
     }
 
     /// A new region inside another.

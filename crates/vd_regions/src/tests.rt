@@ -1,7 +1,5 @@
-//! Cases of visibility, from the rules and the examples of the manuals. A declaration is entered when it becomes visible, so a case asks at the
-//! place where its last call stands.
-
-ghost use Rattle.std.specs.Prelude.{◌≡◌, ◌<◌, ◌+◌, length, IfOk, OnOk, None};
+//! Cases of visibility, from the rules and the examples of the manuals, as tables of steps. A declaration is entered when it becomes visible, so a
+//! step asks at the place where it stands. Declarations and regions have their numbers in order, and region 0 is that of the libraries.
 
 use crate::{EnterEnd, Regions};
 use std::alloc::{AllocError, Global};
@@ -14,304 +12,277 @@ const BIT: Option<u32> = Some(1_000_000);
 
 const WORD: Option<u32> = Some(2_000_000);
 
-fn declaration(
+/// Classes, for constants.
+#[derive(Clone, Copy)]
+enum Kind {
+    Library,
+    Entity,
+    Package,
+    Constant,
+    Signal,
+    Variable,
+    Port,
+    Parameter,
+    EnumerationLiteral,
+    Function,
+    InstanceFunction,
+    PredefinedOperator,
+}
+
+fn class_of(kind: Kind) -> Class {
+    match kind {
+        Kind::Library => Class::Library,
+        Kind::Entity => Class::Entity,
+        Kind::Package => Class::Package,
+        Kind::Constant => Class::Constant,
+        Kind::Signal => Class::Signal,
+        Kind::Variable => Class::Variable,
+        Kind::Port => Class::Port,
+        Kind::Parameter => Class::Parameter,
+        Kind::EnumerationLiteral => Class::EnumerationLiteral,
+        Kind::Function => Class::Function,
+        Kind::InstanceFunction => Class::InstanceFunction,
+        Kind::PredefinedOperator => Class::PredefinedOperator,
+    }
+}
+
+enum Step {
+    /// In a region a name of a class, with parameters and a type. It is entered.
+    Enter(u32, &'static str, Kind, &'static [u32], Option<u32>),
+    /// The same, and the number of the first homograph is answered.
+    Clash(u32, &'static str, Kind, &'static [u32], Option<u32>, u32),
+    /// A unit, whose declarations stand in a region of its own.
+    Unit(u32, &'static str, Kind, u32),
+    Nest(u32),
+    Use(u32, u32, Option<&'static str>),
+    Close(u32),
+    /// Exactly these are visible in a region.
+    Sees(u32, &'static str, &'static [u32]),
+    /// Exactly these are meant at a place behind the name of a declaration.
+    Selects(u32, u32, &'static str, &'static [u32]),
+}
+
+fn ids(alloc: Global, numbers: &[u32]) -> Result<Vec<DeclId>, AllocError> {
+    let mut ids = Vec::new(alloc);
+    for number in numbers {
+        ids.push(DeclId::of(*number))?;
+    }
+    Ok(ids)
+}
+
+/// Enters a declaration, and answers the number of a homograph.
+fn enter(
     alloc: Global,
+    regions: &mut Regions,
+    region: u32,
     name: &str,
-    class: Class,
-    parameters: &[DeclId],
+    kind: Kind,
+    parameters: &[u32],
     mark: Option<u32>,
-    inside: Option<RegionId>,
-) -> Result<Declaration, AllocError>
-    ensures { IfOk result (λ d. d.name ≡ name.now) }
-{
-    let text = Text::from_slice(alloc, name.as_bytes())?;
-    let wanted = Text::from_slice(alloc, name.as_bytes())?;
-    let parameters = Vec::from_slice(alloc, parameters)?;
-    let mark = match mark {
-        Some(number) => Some(TypeId::of(number)),
-        None => None,
-    };
-    Ok(Declaration {
-        class,
-        name: text,
-        mark,
-        parameters: Declarations::of(parameters),
-        inside,
+    inside: Option<u32>,
+) -> Result<Option<u32>, EnterEnd> {
+    let declared = Declaration {
+        class: class_of(kind),
+        name: Text::from_slice(alloc, name.as_bytes())?,
+        mark: mark.map(TypeId::of),
+        parameters: Declarations::of(ids(alloc, parameters)?),
+        inside: inside.map(RegionId::of),
         place: Place {
             file: 0,
             line: 1,
             column: 1,
         },
         made: Made::Written,
-        wanted,
-    })
+        wanted: Text::from_slice(alloc, name.as_bytes())?,
+    };
+    match regions.enter(RegionId::of(region), name, declared) {
+        Ok(_) => Ok(None),
+        Err(EnterEnd::Homograph(id)) => Ok(Some(id.number())),
+        Err(EnterEnd::Memory) => Err(EnterEnd::Memory),
+    }
 }
 
-fn put(
-    alloc: Global,
-    regions: &mut Regions,
-    region: RegionId,
-    name: &str,
-    class: Class,
-    parameters: &[DeclId],
-    mark: Option<u32>,
-) -> Result<DeclId, EnterEnd>
-    ensures same_regions { regions.new.regions ≡ regions.old.regions }
-{
-    let declared = declaration(alloc, name, class, parameters, mark, None)?;
-    regions.enter(region, name, declared)
+/// Makes a region, a use clause or the end of a region, where these regions are there.
+fn moves(regions: &mut Regions, step: &Step) -> Result<bool, AllocError> {
+    match step {
+        Step::Nest(outer) if regions.is_region(RegionId::of(*outer)) => {
+            regions.nest(RegionId::of(*outer))?;
+            Ok(true)
+        }
+        Step::Use(region, from, name) if regions.is_region(RegionId::of(*region)) => {
+            regions.use_name(RegionId::of(*region), RegionId::of(*from), *name)?;
+            Ok(true)
+        }
+        Step::Close(region) if regions.is_region(RegionId::of(*region)) => {
+            regions.close(RegionId::of(*region));
+            Ok(true)
+        }
+        _ => Ok(false),
+    }
 }
 
-/// A unit, whose declarations stand in a region of its own.
-fn put_unit(
-    alloc: Global,
-    regions: &mut Regions,
-    region: RegionId,
-    name: &str,
-    class: Class,
-    inside: RegionId,
-) -> Result<DeclId, EnterEnd>
-    ensures same_regions { regions.new.regions ≡ regions.old.regions }
-{
-    let declared = declaration(alloc, name, class, &[], None, Some(inside))?;
-    regions.enter(region, name, declared)
+/// Does a step, and says whether it came out as it says.
+fn does(alloc: Global, regions: &mut Regions, step: &Step) -> Result<bool, EnterEnd> {
+    match step {
+        Step::Enter(region, name, kind, parameters, mark) => {
+            let clash = enter(alloc, regions, *region, name, *kind, parameters, *mark, None)?;
+            Ok(clash.is_none())
+        }
+        Step::Clash(region, name, kind, parameters, mark, first) => {
+            let clash = enter(alloc, regions, *region, name, *kind, parameters, *mark, None)?;
+            Ok(clash == Some(*first))
+        }
+        Step::Unit(region, name, kind, inside) => {
+            let clash = enter(alloc, regions, *region, name, *kind, &[], None, Some(*inside))?;
+            Ok(clash.is_none())
+        }
+        Step::Sees(region, name, numbers) => {
+            let found = regions.visible(alloc, RegionId::of(*region), name)?;
+            Ok(found.as_slice() == ids(alloc, numbers)?.as_slice())
+        }
+        Step::Selects(place, prefix, name, numbers) => {
+            let found =
+                regions.selected(alloc, RegionId::of(*place), DeclId::of(*prefix), name)?;
+            Ok(found.as_slice() == ids(alloc, numbers)?.as_slice())
+        }
+        _ => Ok(moves(regions, step)?),
+    }
 }
 
-/// Whether exactly these are visible, in this order.
-fn sees(
-    alloc: Global,
-    regions: &Regions,
-    region: RegionId,
-    name: &str,
-    these: &[DeclId],
-) -> Result<bool, AllocError> {
-    let found = regions.visible(alloc, region, name)?;
-    Ok(found.as_slice() == these)
+/// The first step that doesn't come out as it says.
+fn wrong_step(alloc: Global, steps: &[Step]) -> Result<Option<usize>, EnterEnd> {
+    let mut regions = Regions::new(alloc)?;
+    for (i, step) in steps.iter().enumerate() {
+        if !does(alloc, &mut regions, step)? {
+            return Ok(Some(i));
+        }
+    }
+    Ok(None)
 }
 
-/// The same for a selected name.
-fn selects(
-    alloc: Global,
-    regions: &Regions,
-    place: RegionId,
-    prefix: DeclId,
-    name: &str,
-    these: &[DeclId],
-) -> Result<bool, AllocError> {
-    let found = regions.selected(alloc, place, prefix, name)?;
-    Ok(found.as_slice() == these)
-}
+use Kind::*;
+use Step::*;
+
+/// Two signals of one name; functions beside one another by their profiles; an object beside functions.
+const HOMOGRAPHS: &[Step] = &[
+    Enter(0, "s", Signal, &[], BIT),
+    Clash(0, "s", Signal, &[], WORD, 0),
+    Sees(0, "s", &[0]),
+    Sees(0, "t", &[]),
+    Enter(0, "a", Parameter, &[], BIT),
+    Enter(0, "b", Parameter, &[], BIT),
+    Enter(0, "f", Function, &[1], BIT),
+    Enter(0, "f", Function, &[1], WORD),
+    Enter(0, "f", Function, &[1, 2], WORD),
+    Clash(0, "f", Function, &[2], WORD, 4),
+    Clash(0, "f", Constant, &[], WORD, 3),
+    Sees(0, "f", &[3, 4, 5]),
+];
+
+/// An inner declaration hides outer ones from its end on, but for overloadable ones with other profiles.
+const HIDING: &[Step] = &[
+    Enter(0, "x", Signal, &[], BIT),
+    Enter(0, "f", Function, &[], BIT),
+    Nest(0),
+    Sees(1, "x", &[0]),
+    Enter(1, "x", Variable, &[], BIT),
+    Enter(1, "f", EnumerationLiteral, &[], WORD),
+    Sees(1, "x", &[2]),
+    Sees(0, "x", &[0]),
+    Sees(1, "f", &[1, 3]),
+    Enter(1, "f", Function, &[], BIT),
+    Sees(1, "f", &[3, 4]),
+    Nest(1),
+    Sees(2, "x", &[2]),
+];
+
+/// Clauses give what closed regions declare; two that are no functions hide each other; a direct declaration hides both.
+const USE_CLAUSES: &[Step] = &[
+    Nest(0),
+    Nest(0),
+    Nest(0),
+    Enter(1, "c", Constant, &[], BIT),
+    Enter(1, "f", Function, &[], BIT),
+    Enter(2, "f", Function, &[], BIT),
+    Enter(2, "c", Constant, &[], BIT),
+    Use(3, 1, None),
+    Sees(3, "c", &[]),
+    Close(1),
+    Sees(3, "c", &[0]),
+    Use(3, 2, Some("f")),
+    Close(2),
+    Sees(3, "c", &[0]),
+    Sees(3, "f", &[1, 2]),
+    Use(3, 1, Some("c")),
+    Sees(3, "c", &[0]),
+    Use(3, 2, Some("c")),
+    Sees(3, "c", &[]),
+    Enter(3, "f", Constant, &[], BIT),
+    Sees(3, "f", &[4]),
+    Enter(3, "c", Signal, &[], BIT),
+    Sees(3, "c", &[5]),
+];
+
+/// What counts is what clauses give, and not what is still visible of it: the function 2 is hidden by the constant 1, which the function 3 hides.
+const GIVEN_BUT_HIDDEN: &[Step] = &[
+    Nest(0),
+    Nest(0),
+    Nest(0),
+    Enter(0, "a", Parameter, &[], BIT),
+    Enter(1, "f", Constant, &[], BIT),
+    Enter(2, "f", Function, &[], WORD),
+    Close(1),
+    Close(2),
+    Use(3, 1, None),
+    Use(3, 2, None),
+    Enter(3, "f", Function, &[0], BIT),
+    Sees(3, "f", &[3]),
+];
+
+/// A function takes the place of an operator with its profile in its region, and hides that of another region.
+const OPERATORS: &[Step] = &[
+    Nest(0),
+    Enter(0, "\"and\"", PredefinedOperator, &[], BIT),
+    Enter(0, "\"and\"", PredefinedOperator, &[], WORD),
+    Enter(0, "\"and\"", Function, &[], BIT),
+    Clash(0, "\"and\"", Function, &[], BIT, 2),
+    Sees(1, "\"and\"", &[1, 2]),
+    Enter(1, "\"and\"", Function, &[], WORD),
+    Sees(1, "\"and\"", &[2, 3]),
+    Enter(0, "h", InstanceFunction, &[], BIT),
+    Enter(0, "h", InstanceFunction, &[], BIT),
+    Sees(1, "h", &[4, 5]),
+];
+
+/// A library is open at once, a package at its end, an entity in its own architectures.
+const SELECTED: &[Step] = &[
+    Nest(0),
+    Nest(0),
+    Nest(0),
+    Nest(3),
+    Unit(0, "work", Library, 1),
+    Unit(1, "p", Package, 2),
+    Unit(1, "e", Entity, 3),
+    Enter(2, "c", Constant, &[], BIT),
+    Enter(3, "x", Port, &[], BIT),
+    Selects(0, 0, "p", &[1]),
+    Selects(0, 1, "c", &[]),
+    Close(2),
+    Close(3),
+    Selects(0, 1, "c", &[3]),
+    Selects(0, 2, "x", &[]),
+    Selects(4, 2, "x", &[4]),
+    Selects(4, 3, "x", &[]),
+];
 
 #[test]
-fn a_second_declaration_of_a_name_is_a_homograph(rt: HostRuntime) -> Result<(), Fail> {
+fn regions_come_out_as_their_steps_say(rt: HostRuntime) -> Result<(), Fail> {
     let alloc = rt.alloc();
-    let mut regions = Regions::new(alloc)?;
-    let root = regions.root();
-    let first = put(alloc, &mut regions, root, "s", Class::Signal, &[], BIT)?;
-    let again = put(alloc, &mut regions, root, "s", Class::Signal, &[], WORD);
-    assert!(rt; again == Err(EnterEnd::Homograph(first)));
-    assert!(rt; sees(alloc, &regions, root, "s", &[first])?);
-    assert!(rt; sees(alloc, &regions, root, "t", &[])?);
-    Ok(())
-}
-
-#[test]
-fn functions_stand_beside_one_another_by_their_profiles(rt: HostRuntime) -> Result<(), Fail> {
-    let alloc = rt.alloc();
-    let mut regions = Regions::new(alloc)?;
-    let root = regions.root();
-    let a = put(alloc, &mut regions, root, "a", Class::Parameter, &[], BIT)?;
-    let b = put(alloc, &mut regions, root, "b", Class::Parameter, &[], BIT)?;
-    let first = put(alloc, &mut regions, root, "f", Class::Function, &[a], BIT)?;
-    let second = put(alloc, &mut regions, root, "f", Class::Function, &[a], WORD)?;
-    let third = put(
-        alloc,
-        &mut regions,
-        root,
-        "f",
-        Class::Function,
-        &[a, b],
-        WORD,
-    )?;
-    let again = put(alloc, &mut regions, root, "f", Class::Function, &[b], WORD);
-    assert!(rt; again == Err(EnterEnd::Homograph(second)));
-    let object = put(alloc, &mut regions, root, "f", Class::Constant, &[], WORD);
-    assert!(rt; object == Err(EnterEnd::Homograph(first)));
-    assert!(rt; sees(alloc, &regions, root, "f", &[first, second, third])?);
-    Ok(())
-}
-
-#[test]
-fn an_inner_declaration_hides_outer_ones(rt: HostRuntime) -> Result<(), Fail> {
-    let alloc = rt.alloc();
-    let mut regions = Regions::new(alloc)?;
-    let root = regions.root();
-    let outer_object = put(alloc, &mut regions, root, "x", Class::Signal, &[], BIT)?;
-    let outer = put(alloc, &mut regions, root, "f", Class::Function, &[], BIT)?;
-    let inner = regions.nest(root)?;
-    assert!(rt; sees(alloc, &regions, inner, "x", &[outer_object])?);
-    let object = put(alloc, &mut regions, inner, "x", Class::Variable, &[], BIT)?;
-    let same = put(
-        alloc,
-        &mut regions,
-        inner,
-        "f",
-        Class::EnumerationLiteral,
-        &[],
-        WORD,
-    )?;
-    assert!(rt; sees(alloc, &regions, inner, "x", &[object])?);
-    assert!(rt; sees(alloc, &regions, root, "x", &[outer_object])?);
-    assert!(rt; sees(alloc, &regions, inner, "f", &[outer, same])?);
-    let hiding = put(alloc, &mut regions, inner, "f", Class::Function, &[], BIT)?;
-    assert!(rt; sees(alloc, &regions, inner, "f", &[same, hiding])?);
-    Ok(())
-}
-
-#[test]
-fn use_clauses_give_what_closed_regions_declare(rt: HostRuntime) -> Result<(), Fail> {
-    let alloc = rt.alloc();
-    let mut regions = Regions::new(alloc)?;
-    let root = regions.root();
-    let one = regions.nest(root)?;
-    let two = regions.nest(root)?;
-    let unit = regions.nest(root)?;
-    let c = put(alloc, &mut regions, one, "c", Class::Constant, &[], BIT)?;
-    let f = put(alloc, &mut regions, one, "f", Class::Function, &[], BIT)?;
-    let g = put(alloc, &mut regions, two, "f", Class::Function, &[], BIT)?;
-    put(alloc, &mut regions, two, "c", Class::Constant, &[], BIT)?;
-    regions.use_name(unit, one, None)?;
-    assert!(rt; sees(alloc, &regions, unit, "c", &[])?);
-    regions.close(one);
-    assert!(rt; sees(alloc, &regions, unit, "c", &[c])?);
-    regions.use_name(unit, two, Some("f"))?;
-    regions.close(two);
-    assert!(rt; sees(alloc, &regions, unit, "c", &[c])?);
-    assert!(rt; sees(alloc, &regions, unit, "f", &[f, g])?);
-    regions.use_name(unit, two, Some("c"))?;
-    assert!(rt; sees(alloc, &regions, unit, "c", &[])?);
-    let own = put(alloc, &mut regions, unit, "c", Class::Signal, &[], BIT)?;
-    assert!(rt; sees(alloc, &regions, unit, "c", &[own])?);
-    Ok(())
-}
-
-#[test]
-fn a_function_takes_the_place_of_an_operator_in_its_region(rt: HostRuntime) -> Result<(), Fail> {
-    let alloc = rt.alloc();
-    let mut regions = Regions::new(alloc)?;
-    let root = regions.root();
-    let unit = regions.nest(root)?;
-    put(
-        alloc,
-        &mut regions,
-        root,
-        "\"and\"",
-        Class::PredefinedOperator,
-        &[],
-        BIT,
-    )?;
-    let other = put(
-        alloc,
-        &mut regions,
-        root,
-        "\"and\"",
-        Class::PredefinedOperator,
-        &[],
-        WORD,
-    )?;
-    let own = put(
-        alloc,
-        &mut regions,
-        root,
-        "\"and\"",
-        Class::Function,
-        &[],
-        BIT,
-    )?;
-    let again = put(
-        alloc,
-        &mut regions,
-        root,
-        "\"and\"",
-        Class::Function,
-        &[],
-        BIT,
-    );
-    assert!(rt; again == Err(EnterEnd::Homograph(own)));
-    assert!(rt; sees(alloc, &regions, unit, "\"and\"", &[other, own])?);
-    let copy = put(
-        alloc,
-        &mut regions,
-        root,
-        "h",
-        Class::InstanceFunction,
-        &[],
-        BIT,
-    )?;
-    let second = put(
-        alloc,
-        &mut regions,
-        root,
-        "h",
-        Class::InstanceFunction,
-        &[],
-        BIT,
-    )?;
-    assert!(rt; sees(alloc, &regions, unit, "h", &[copy, second])?);
-    Ok(())
-}
-
-#[test]
-fn selected_names_open_units_at_their_ends(rt: HostRuntime) -> Result<(), Fail> {
-    let alloc = rt.alloc();
-    let mut regions = Regions::new(alloc)?;
-    let root = regions.root();
-    let library = regions.nest(root)?;
-    let inside_package = regions.nest(root)?;
-    let inside_entity = regions.nest(root)?;
-    let architecture = regions.nest(inside_entity)?;
-    let work = put_unit(alloc, &mut regions, root, "work", Class::Library, library)?;
-    let p = put_unit(
-        alloc,
-        &mut regions,
-        library,
-        "p",
-        Class::Package,
-        inside_package,
-    )?;
-    let e = put_unit(
-        alloc,
-        &mut regions,
-        library,
-        "e",
-        Class::Entity,
-        inside_entity,
-    )?;
-    let c = put(
-        alloc,
-        &mut regions,
-        inside_package,
-        "c",
-        Class::Constant,
-        &[],
-        BIT,
-    )?;
-    let x = put(
-        alloc,
-        &mut regions,
-        inside_entity,
-        "x",
-        Class::Port,
-        &[],
-        BIT,
-    )?;
-    assert!(rt; selects(alloc, &regions, root, work, "p", &[p])?);
-    assert!(rt; selects(alloc, &regions, root, p, "c", &[])?);
-    regions.close(inside_package);
-    regions.close(inside_entity);
-    assert!(rt; selects(alloc, &regions, root, p, "c", &[c])?);
-    assert!(rt; selects(alloc, &regions, root, e, "x", &[])?);
-    assert!(rt; selects(alloc, &regions, architecture, e, "x", &[x])?);
-    assert!(rt; selects(alloc, &regions, architecture, c, "x", &[])?);
+    assert!(rt; wrong_step(alloc, HOMOGRAPHS)? == None);
+    assert!(rt; wrong_step(alloc, HIDING)? == None);
+    assert!(rt; wrong_step(alloc, USE_CLAUSES)? == None);
+    assert!(rt; wrong_step(alloc, GIVEN_BUT_HIDDEN)? == None);
+    assert!(rt; wrong_step(alloc, OPERATORS)? == None);
+    assert!(rt; wrong_step(alloc, SELECTED)? == None);
     Ok(())
 }
