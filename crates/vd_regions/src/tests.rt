@@ -125,15 +125,28 @@ fn moves(regions: &mut Regions, step: &Step) -> Result<bool, AllocError> {
 fn does(alloc: Global, regions: &mut Regions, step: &Step) -> Result<bool, EnterEnd> {
     match step {
         Step::Enter(region, name, kind, parameters, mark) => {
-            let clash = enter(alloc, regions, *region, name, *kind, parameters, *mark, None)?;
+            let clash = enter(
+                alloc, regions, *region, name, *kind, parameters, *mark, None,
+            )?;
             Ok(clash.is_none())
         }
         Step::Clash(region, name, kind, parameters, mark, first) => {
-            let clash = enter(alloc, regions, *region, name, *kind, parameters, *mark, None)?;
+            let clash = enter(
+                alloc, regions, *region, name, *kind, parameters, *mark, None,
+            )?;
             Ok(clash == Some(*first))
         }
         Step::Unit(region, name, kind, inside) => {
-            let clash = enter(alloc, regions, *region, name, *kind, &[], None, Some(*inside))?;
+            let clash = enter(
+                alloc,
+                regions,
+                *region,
+                name,
+                *kind,
+                &[],
+                None,
+                Some(*inside),
+            )?;
             Ok(clash.is_none())
         }
         Step::Sees(region, name, numbers) => {
@@ -141,8 +154,7 @@ fn does(alloc: Global, regions: &mut Regions, step: &Step) -> Result<bool, Enter
             Ok(found.as_slice() == ids(alloc, numbers)?.as_slice())
         }
         Step::Selects(place, prefix, name, numbers) => {
-            let found =
-                regions.selected(alloc, RegionId::of(*place), DeclId::of(*prefix), name)?;
+            let found = regions.selected(alloc, RegionId::of(*place), DeclId::of(*prefix), name)?;
             Ok(found.as_slice() == ids(alloc, numbers)?.as_slice())
         }
         _ => Ok(moves(regions, step)?),
