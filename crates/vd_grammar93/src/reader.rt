@@ -1,19 +1,23 @@
-//! The tree of a token list of revision 1993.
+//! The design of a token list of revision 1993.
 
 ghost use Rattle.std.specs.Prelude.{◌≡◌, MatchResult};
-ghost use Rattle.vd_tokens.specs.Spellings.{EndsOnce};
-ghost use Rattle.vd_shapes.specs.Answers.{IsShaped};
-ghost use Rattle.vd_shapes.specs.Reading.{symbols_in, IsReadEnd};
+ghost use Rattle.std.specs.List.{AllByRecursion};
+ghost use Rattle.vd_trees.specs.declared.revision.Revision.TheVariants.{V1993};
+ghost use Rattle.vd_tokens.specs.Spellings.{EndsOnce, IsPossible};
+ghost use Rattle.vd_shapes.specs.Reading.{IsReadEnd};
+ghost use Rattle.vd_valid_shapes.specs.Laws.{IsShapeOf};
 ghost use Rattle.vd_grammar93.specs.Grammar.{grammar, actions, AreTheLists};
 
 use crate::claims::{CLAIMS, EMPTIES};
 use crate::nonterminals::N_FILE;
 use crate::rows::{ACTIONS, MARKED, ROWS};
 use std::alloc::Global;
+use vd_forms::Design93;
 use vd_gram::CheckedTable;
 use vd_shapes::terminals::TERMINALS;
-use vd_shapes::{GrammarEnd, Lists, Rows, Shaped, read};
+use vd_shapes::{GrammarEnd, Lists, Rows};
 use vd_tokens::Tokens;
+use vd_valid_shapes::read_design93;
 
 /// How many expressions and statements may stand in one another.
 const DEEP: u32 = 2000;
@@ -32,14 +36,15 @@ fn lists() -> Lists
     }
 }
 
-/// The tree of a token list: its design units. Or the first token with which no text of the
-/// grammar goes on, or that expressions and statements stand too deep in one another before it.
-pub fn read93(alloc: Global, tokens: &Tokens) -> Result<Shaped, GrammarEnd>
-    requires { EndsOnce tokens.now }
-    ensures { MatchResult result (λ shaped. IsShaped grammar actions tokens.now (symbols_in tokens.now) 2000 shaped)
+/// The design of a token list: the tree of its derivation. Or the first token with which no text of
+/// the grammar goes on, or that expressions and statements stand too deep in one another before it.
+pub fn read93(alloc: Global, tokens: &Tokens) -> Result<Design93, GrammarEnd>
+    requires ends { EndsOnce tokens.now }
+    requires possible { AllByRecursion (IsPossible V1993) tokens.now }
+    ensures { MatchResult result (λ design. IsShapeOf grammar actions tokens.now 2000 design)
         (λ end. IsReadEnd grammar tokens.now 2000 end) }
 {
     let rows = Rows::of(alloc, lists())?;
     let table = CheckedTable::of(rows.table());
-    read(alloc, &table, ACTIONS, tokens, DEEP)
+    read_design93(alloc, &table, ACTIONS, tokens, DEEP)
 }

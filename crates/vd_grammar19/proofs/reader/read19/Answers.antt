@@ -1,15 +1,24 @@
 use Rattle.std.proofs.Common.{sym, subst}
 use Rattle.std.specs.Prelude.{MatchResult, Result, Ok, Err}
+use Rattle.vd_trees.specs.declared.revision.Revision.TheVariants.{V2019}
 use Rattle.vd_gram.specs.Same.{IsSameGrammar}
 use Rattle.vd_gram.proofs.SameLemmas.{say_the_same}
 use Rattle.vd_shapes.specs.Rows.{IsListed}
-use Rattle.vd_shapes.proofs.SameLemmas.{same_shaped, same_end}
+use Rattle.vd_shapes.proofs.SameLemmas.{same_end}
+use Rattle.vd_valid_shapes.proofs.ReadingLemmas.{same_designs, same_shape}
 use Rattle.vd_grammar19.specs.Grammar.{grammar, actions}
 use Rattle.vd_grammar19.proofs.Checked.{checked, same}
+use Rattle.vd_grammar19.proofs.Valid.{designs}
 use Rattle.vd_grammar19.proofs.reader.read19.Goals as goal
 
 pub of-table-requires : goal.of-table-requires
 of-table-requires c = checked c.lists.result c.table.result c.lists.ensures (subst (λ l. IsListed l c.table.result) c.in_ok-rows.ensures c.table.ensures)
+
+pub read_design19-requires-designs : goal.read_design19-requires-designs
+read_design19-requires-designs c =
+    let is = same c.lists.result c.table.result c.lists.ensures (subst (λ l. IsListed l c.table.result) c.in_ok-rows.ensures c.table.ensures) in
+    let one = subst (λ t. IsSameGrammar t grammar) (sym c.of-table.ensures) is in
+    same_designs say_the_same c.of-table.result.table grammar one actions V2019 designs
 
 either : {T E : Type 0} (r : Result T E) (P P' : T → Type 0) (Q Q' : E → Type 0) → ((x : T) → P x → P' x) → ((e : E) → Q e → Q' e)
     → MatchResult r P Q → MatchResult r P' Q'
@@ -20,7 +29,7 @@ pub returns : goal.returns
 returns c =
     let is = same c.lists.result c.table.result c.lists.ensures (subst (λ l. IsListed l c.table.result) c.in_ok-rows.ensures c.table.ensures) in
     let one = subst (λ t. IsSameGrammar t grammar) (sym c.of-table.ensures) is in
-    either c.read.result _ _ _ _
-    (λ s h. same_shaped say_the_same c.of-table.result.table grammar one c.args.tokens.now 200 actions s h)
+    either c.read_design19.result _ _ _ _
+    (λ f h. same_shape say_the_same c.of-table.result.table grammar one actions c.args.tokens.now 200 f h)
     (λ e h. same_end say_the_same c.of-table.result.table grammar one c.args.tokens.now 200 e h)
-    c.read.ensures
+    c.read_design19.ensures

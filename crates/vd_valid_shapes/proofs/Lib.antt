@@ -1,0 +1,5 @@
+pub mod SlotLemmas
+pub mod BracketLemmas
+pub mod EffectLemmas
+pub mod DesignLemmas
+pub mod ReadingLemmas
