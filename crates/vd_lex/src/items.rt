@@ -67,7 +67,11 @@ pub struct Buffers {
 }
 
 impl Buffers {
-    pub fn new(alloc: Global) -> Buffers {
+    /// Empty buffers.
+    pub fn new(alloc: Global) -> Buffers
+        ensures text { result.text.items ≡ [] }
+        ensures chars { result.chars.items ≡ [] }
+    {
         Buffers {
             text: Vec::new(alloc),
             chars: Vec::new(alloc),
