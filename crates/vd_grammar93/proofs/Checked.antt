@@ -4,7 +4,6 @@ use Rattle.std.proofs.Common.{refl, ap, ◌∙◌}
 use Rattle.vd_gram.specs.declared.tables.Table.{Table}
 use Rattle.vd_gram.specs.Claims.{is_checked, claims_are_closed, ranks_show, all_told_apart}
 use Rattle.vd_gram.specs.Same.{IsSameGrammar}
-use Rattle.vd_gram.proofs.SameLemmas.{say_the_same}
 use Rattle.vd_shapes.specs.declared.rows.Lists.{Lists}
 use Rattle.vd_shapes.specs.Rows.{IsListed, pieces, claims_of}
 use Rattle.vd_shapes.proofs.PlacedLemmas.{Spots, spotted, holds_listed, same_grammar}

@@ -14,8 +14,8 @@ use Rattle.vd_grammar93.proofs.reader.read93.Goals as goal
 pub of-table-requires : goal.of-table-requires
 of-table-requires c = checked c.lists.result c.table.result c.lists.ensures (subst (λ l. IsListed l c.table.result) c.in_ok-rows.ensures c.table.ensures)
 
-pub read_design93-requires-designs : goal.read_design93-requires-designs
-read_design93-requires-designs c =
+pub read_design93-requires-clause-designs : goal.read_design93-requires-clause-designs
+read_design93-requires-clause-designs c =
     let is = same c.lists.result c.table.result c.lists.ensures (subst (λ l. IsListed l c.table.result) c.in_ok-rows.ensures c.table.ensures) in
     let one = subst (λ t. IsSameGrammar t grammar) (sym c.of-table.ensures) is in
     same_designs say_the_same c.of-table.result.table grammar one actions V1993 designs
