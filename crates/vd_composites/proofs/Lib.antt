@@ -1,0 +1,6 @@
+mod RangeLemmas
+mod ItemLemmas
+mod StopLemmas
+mod FitLaws
+mod PartLaws
+mod ConcatenationLaws

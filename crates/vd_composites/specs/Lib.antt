@@ -6,3 +6,4 @@ pub mod Parts
 pub mod Subtypes
 pub mod Concatenations
 pub mod Aggregates
+pub mod Laws

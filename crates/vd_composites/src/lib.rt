@@ -1,8 +1,13 @@
 //! Values of every type of the language with their bounds, subtypes, and what it is for a value to be made one of a subtype.
 #![tactic(auto)]
 
+pub mod laws;
 pub mod ranges;
 pub mod scalars;
 
+pub use laws::{
+    concatenations_join_elements, conversions_keep_values, parts_agree, places_are_indexes,
+    values_fit_once,
+};
 pub use ranges::Bounds;
 pub use scalars::{ScalarSubtype, ScalarType};
