@@ -4,3 +4,8 @@ mod StopLemmas
 mod FitLaws
 mod PartLaws
 mod ConcatenationLaws
+mod NodeLemmas
+mod NodeSteps
+mod ValueLemmas
+mod SliceLemmas
+mod ReplacedLemmas

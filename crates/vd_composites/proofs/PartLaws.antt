@@ -101,10 +101,10 @@ field_back vs n p h = ap (λ g. g >>= λ old. with_new (AtField n) p (Fields vs)
 -- ---- slices
 
 -- A slice begins at a place of its prefix. Where it isn't null, all of it lies there.
-record Lies (b s : Bounds) : Type 0 where
-  along : b.down ≡ s.down
-  starts : 0 < length_of s → index_at b (place_of b s.left) ≡ s.left
-  ends : 0 < length_of s → place_of b s.left + length_of s ≤ length_of b
+pub record Lies (b s : Bounds) : Type 0 where
+  pub along : b.down ≡ s.down
+  pub starts : 0 < length_of s → index_at b (place_of b s.left) ≡ s.left
+  pub ends : 0 < length_of s → place_of b s.left + length_of s ≤ length_of b
 
 same_down : (d e : Bool) → same_direction d e ≡ true → d ≡ e
 same_down true true h = refl
@@ -130,7 +130,7 @@ lies_of b s same (suc n) e h =
     let below : place_of b s.right < length_of b = place_below b s.right two.1 in
     record { along = same; starts = λ some. start; ends = λ some. omega arith }
 
-lies : (b s : Bounds) → is_slice b s ≡ true → Lies b s
+pub lies : (b s : Bounds) → is_slice b s ≡ true → Lies b s
 lies b s h =
     let two = both_true (same_direction b.down s.down) (lies_within b s) h in
     lies_of b s (same_down b.down s.down two.0) (length_of s) refl two.1

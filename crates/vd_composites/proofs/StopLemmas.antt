@@ -37,11 +37,18 @@ pub if_again : {A : Type 0} (b : Bool) (x : A) (e : StopKind) (f : A → OrStop 
 if_again true x e f h = h refl
 if_again false x e f h = refl
 
+not_true : (b : Bool) → (b ≡ true → ⊥) → b ≡ false
+not_true true h = absurd (h refl)
+not_true false h = refl
+
 pub test_same : (m n : ℕ) → (m == n) ≡ true → m ≡ n
 test_same m n h = grind (arith, nat_tests)
 
 pub same_test : (m n : ℕ) → m ≡ n → (m == n) ≡ true
 same_test m n h = grind (arith, nat_tests)
+
+pub no_test : (m n : ℕ) → (m ≡ n → ⊥) → (m == n) ≡ false
+no_test m n h = not_true (m == n) (λ e. h (test_same m n e))
 
 -- two numbers that differ
 pub less_or_more : (m n : ℕ) → (m ≡ n → ⊥) → (m < n) ⊎ (n < m)

@@ -1,6 +1,6 @@
 -- Values: scalars, arrays with their bounds, records. (IEEE 1076-2019, 5.2 and 5.3; IEEE 1076-1993, 3.1 and 3.2.) The leaves are scalar values;
 -- over other leaves the same shapes stand for what an object is made of, as its scalar signals.
-use Rattle.std.specs.Prelude.{ℕ, zero, suc, ◌+◌, Bool, true, false, ◌&&◌, List, [], ◌∷◌, ◌++◌}
+use Rattle.std.specs.Prelude.{ℕ, zero, suc, ◌+◌, Bool, true, false, ◌&&◌, List, [], ◌∷◌, ◌++◌, Option, Some, None}
 use Rattle.vd_values.specs.declared.scalar.Scalar.{Scalar}
 use Rattle.vd_composites.specs.declared.ranges.Bounds.{Bounds}
 use Rattle.vd_composites.specs.Scalars.{same_scalar}
@@ -16,6 +16,17 @@ mutual
   pub data Items (L : Type 0) : Type 0 where
     none : Items L
     item : (first : Value L) (rest : Items L) → Items L
+
+-- the scalar value that a value is, and the bounds of an array
+abbrev pub scalar_of : {L : Type 0} → Value L → Option L
+scalar_of (One x) = Some x
+scalar_of (Array b vs) = None
+scalar_of (Fields vs) = None
+
+abbrev pub bounds_of : {L : Type 0} → Value L → Option Bounds
+bounds_of (One x) = None
+bounds_of (Array b vs) = Some b
+bounds_of (Fields vs) = None
 
 -- ---- lists of items
 

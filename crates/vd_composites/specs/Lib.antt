@@ -7,3 +7,6 @@ pub mod Subtypes
 pub mod Concatenations
 pub mod Aggregates
 pub mod Laws
+pub mod Nodes
+pub mod Codes
+pub mod Answers
