@@ -13,7 +13,8 @@ use Rattle.vd_composites.specs.Composites.{Array, Items, count, joined}
 use Rattle.vd_composites.specs.Parts.{array_of}
 use Rattle.vd_composites.specs.Subtypes.{Subtype, Arrays, HasSubtype}
 use Rattle.vd_composites.specs.Concatenations.{Operand, Whole, array_on, elements_of, concatenation}
-use Rattle.vd_composites.specs.Laws.{items_in, Concatenates, ConcatenationIsAssociative}
+use Rattle.vd_composites.specs.Laws.{Concatenates, ConcatenationIsAssociative}
+use Rattle.vd_composites.specs.Composites.{items_in}
 use Rattle.vd_composites.proofs.RangeLemmas.{both_true, and_true, index_within, place_below, place_of_index, length_from_left}
 use Rattle.vd_composites.proofs.ItemLemmas.{count_joined, joined_assoc}
 use Rattle.vd_composites.proofs.StopLemmas.{ok_same, if_ok, if_true, if_false, test_same, same_test}
@@ -23,15 +24,15 @@ use Rattle.vd_composites.proofs.FitLaws.{null_lies_within}
 abbrev pub own_bounds : ScalarSubtype → ℕ → Bounds
 own_bounds index n = from_left index.range.left index.range.down n
 
-one_back : (down : Bool) (i : ℤ) (n : ℕ) → one_before down (steps_on down i (suc n)) ≡ steps_on down i n
+pub one_back : (down : Bool) (i : ℤ) (n : ℕ) → one_before down (steps_on down i (suc n)) ≡ steps_on down i n
 one_back true i n = omega (arith, ints)
 one_back false i n = omega (arith, ints)
 
-no_step : (down : Bool) (i : ℤ) → steps_on down i 0 ≡ i
+pub no_step : (down : Bool) (i : ℤ) → steps_on down i 0 ≡ i
 no_step true i = omega (arith, ints)
 no_step false i = omega (arith, ints)
 
-some_lie : (index : ScalarSubtype) (n : ℕ) → lies_within index.range (own_bounds index (suc n)) ≡ true → n < length_of index.range
+pub some_lie : (index : ScalarSubtype) (n : ℕ) → lies_within index.range (own_bounds index (suc n)) ≡ true → n < length_of index.range
 some_lie index n h =
     let long : length_of (own_bounds index (suc n)) ≡ suc n = length_from_left index.range.left index.range.down (suc n) in
     let some : is_null (own_bounds index (suc n)) ≡ false = ap (λ m. m == 0) long ∙ (let e : (suc n == 0) ≡ false = grind (arith, nat_tests) in e) in
@@ -44,16 +45,20 @@ or_true : (a b : Bool) → b ≡ true → (a || b) ≡ true
 or_true true b h = refl
 or_true false b h = h
 
--- where some fit the index type, fewer do
-fewer_lie : (index : ScalarSubtype) (m n : ℕ) → n ≤ m → lies_within index.range (own_bounds index m) ≡ true → lies_within index.range (own_bounds index n) ≡ true
-fewer_lie index m zero h f = null_lies_within index.range (own_bounds index 0) (length_from_left index.range.left index.range.down 0)
-fewer_lie index zero (suc n) h f = absurd (omega arith)
-fewer_lie index (suc m) (suc n) h f =
-    let room : m < length_of index.range = some_lie index m f in
+-- as many as the index subtype has, and none, lie within it
+pub all_lie : (index : ScalarSubtype) (n : ℕ) → (0 < n → n ≤ length_of index.range) → lies_within index.range (own_bounds index n) ≡ true
+all_lie index zero h = null_lies_within index.range (own_bounds index 0) (length_from_left index.range.left index.range.down 0)
+all_lie index (suc n) h =
+    let room : suc n ≤ length_of index.range = h (omega arith) in
     let left : is_within index.range index.range.left ≡ true = subst (λ i. is_within index.range i ≡ true) (no_step index.range.down index.range.left) (index_within index.range 0 (omega arith)) in
     let right : is_within index.range (own_bounds index (suc n)).right ≡ true = subst (λ i. is_within index.range i ≡ true) (sym (one_back index.range.down index.range.left n)) (index_within index.range n (omega arith)) in
     or_true (is_null (own_bounds index (suc n))) (is_within index.range index.range.left && is_within index.range (own_bounds index (suc n)).right)
     (and_true (is_within index.range index.range.left) (is_within index.range (own_bounds index (suc n)).right) left right)
+
+-- where some fit the index type, fewer do
+pub fewer_lie : (index : ScalarSubtype) (m n : ℕ) → n ≤ m → lies_within index.range (own_bounds index m) ≡ true → lies_within index.range (own_bounds index n) ≡ true
+fewer_lie index zero n h f = all_lie index n (λ some. absurd (omega arith))
+fewer_lie index (suc m) n h f = let room : m < length_of index.range = some_lie index m f in all_lie index n (λ some. omega arith)
 
 more_by : (index : ScalarSubtype) (m n : ℕ) → n ≤ m → (t : Bool) → lies_within index.range (own_bounds index m) ≡ t → lies_within index.range (own_bounds index n) ≡ false → t ≡ false
 more_by index m n h true e f = sym (fewer_lie index m n h e) ∙ f

@@ -11,7 +11,8 @@ use Rattle.vd_composites.specs.Scalars.{belongs}
 use Rattle.vd_composites.specs.Composites.{Value, One, Array, Fields, Items, count, repeated, leaves}
 use Rattle.vd_composites.specs.Parts.{array_of}
 use Rattle.vd_composites.specs.Subtypes.{Subtype, Scalars, Arrays, Records, Subtypes, number_of, fit, HasSubtype, default_of}
-use Rattle.vd_composites.specs.Laws.{items_in, FitsOnce, DefaultsFit, ConversionsKeepValues}
+use Rattle.vd_composites.specs.Laws.{FitsOnce, DefaultsFit, ConversionsKeepValues}
+use Rattle.vd_composites.specs.Composites.{items_in}
 use Rattle.vd_composites.proofs.RangeLemmas.{length_from_left}
 use Rattle.vd_composites.proofs.StopLemmas.{ok_same, if_ok, if_true, test_same, same_test}
 

@@ -9,3 +9,4 @@ mod NodeSteps
 mod ValueLemmas
 mod SliceLemmas
 mod ReplacedLemmas
+mod JoinedLemmas

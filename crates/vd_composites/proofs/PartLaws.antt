@@ -8,7 +8,8 @@ use Rattle.vd_composites.specs.Stops.{OrStop, ◌>>=◌}
 use Rattle.vd_composites.specs.Ranges.{length_of, is_within, lies_within, place_of, index_at, steps_on, same_direction}
 use Rattle.vd_composites.specs.Composites.{Value, One, Array, Fields, Items, none, item, count, joined, without, first_of, written}
 use Rattle.vd_composites.specs.Parts.{first_item, item_at, element, array_of, is_slice, slice, Step, AtIndex, AtSlice, AtField, part, with_slice, with_new, with_part}
-use Rattle.vd_composites.specs.Laws.{items_in, as_part, IsApart, PartsAgree}
+use Rattle.vd_composites.specs.Laws.{as_part, IsApart, PartsAgree}
+use Rattle.vd_composites.specs.Composites.{items_in}
 use Rattle.vd_composites.proofs.RangeLemmas.{both_true, index_within, index_of_place, place_below, place_of_index, steps_more, right_is_last}
 use Rattle.vd_composites.proofs.ItemLemmas.{first_joined, without_more, item_of_first, item_there, written_there, before_written, behind_written, written_none, written_back}
 use Rattle.vd_composites.proofs.StopLemmas.{ok_same, got, if_ok, if_true, if_same, test_same, same_test, less_or_more}

@@ -37,7 +37,7 @@ pub if_again : {A : Type 0} (b : Bool) (x : A) (e : StopKind) (f : A → OrStop 
 if_again true x e f h = h refl
 if_again false x e f h = refl
 
-not_true : (b : Bool) → (b ≡ true → ⊥) → b ≡ false
+pub not_true : (b : Bool) → (b ≡ true → ⊥) → b ≡ false
 not_true true h = absurd (h refl)
 not_true false h = refl
 

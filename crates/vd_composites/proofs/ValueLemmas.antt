@@ -14,7 +14,7 @@ use Rattle.vd_composites.specs.Ranges.{length_of, is_within, place_of, lies_with
 use Rattle.vd_composites.specs.Composites.{Value, One, Array, Fields, Items, none, item, count, joined, without, first_of}
 use Rattle.vd_composites.specs.Parts.{misshapen, first_item, item_at, element, array_of, is_slice, slice, Step, AtIndex, AtSlice, AtField, part}
 use Rattle.vd_composites.specs.Nodes.{bounds_from, read, after, value_in, bounds_in, fields_in, scalar_in}
-use Rattle.vd_composites.specs.Composites.{scalar_of, bounds_of}
+use Rattle.vd_composites.specs.Composites.{scalar_of, bounds_of, items_in}
 use Rattle.vd_composites.specs.Scalars.{belongs}
 use Rattle.vd_composites.specs.Subtypes.{Subtype, Scalars, Arrays, fit}
 use Rattle.vd_composites.specs.declared.scalars.ScalarSubtype.{ScalarSubtype}
@@ -270,3 +270,20 @@ field_made ns n place made a below e =
     field_read_is ns n place a below
     ∙ ap (λ xs. Ok (value_in (first_of 1 (without place (read xs))))) (sym (tail_of 1 ns))
     ∙ ap (λ vs. Ok (value_in vs)) (sym e)
+
+-- ---- parts
+
+pub array_parts : (ns : List Node) (b : Bounds) → IsArray ns b → read (drop 2 ns) ≡ items_in (value_in (read ns))
+array_parts ns b a = sym (ap items_in a.is)
+
+pub record_parts : (ns : List Node) (n : ℕ) → IsRecord ns n → read (drop 1 ns) ≡ items_in (value_in (read ns))
+record_parts ns n a = sym (ap items_in a.is)
+
+pub no_parts : (ns : List Node) → after 1 ns ≡ Some 0 → bounds_in ns ≡ None → fields_in ns ≡ None → read [] ≡ items_in (value_in (read ns))
+no_parts [] h e f = refl
+no_parts (Integer x ∷ ns) h e f = refl
+no_parts (Literal x ∷ ns) h e f = refl
+no_parts (Time x ∷ ns) h e f = refl
+no_parts (ArrayNode left down ∷ Right right ∷ ns) h e f = absurd cc
+no_parts (FieldsNode n ∷ ns) h e f = absurd cc
+no_parts (x ∷ ns) h e f = absurd cc

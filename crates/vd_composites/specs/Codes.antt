@@ -87,3 +87,6 @@ mutual
 
 abbrev pub coded_value : Coded (Value Scalar)
 coded_value = record { code = stored; inj = stored_inj }
+
+abbrev pub coded_items : Coded (Items Scalar)
+coded_items = record { code = all_stored; inj = all_stored_inj }

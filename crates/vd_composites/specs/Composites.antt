@@ -28,6 +28,12 @@ bounds_of (One x) = None
 bounds_of (Array b vs) = Some b
 bounds_of (Fields vs) = None
 
+-- the elements of an array, or the fields of a record
+abbrev pub items_in : {L : Type 0} → Value L → Items L
+items_in (One x) = none
+items_in (Array b vs) = vs
+items_in (Fields vs) = vs
+
 -- ---- lists of items
 
 abbrev pub count : {L : Type 0} → Items L → ℕ

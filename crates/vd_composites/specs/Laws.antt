@@ -6,7 +6,7 @@ use Rattle.vd_composites.specs.declared.scalars.ScalarSubtype.{ScalarSubtype}
 use Rattle.vd_composites.specs.Stops.{◌>>=◌}
 use Rattle.vd_composites.specs.Ranges.{length_of, is_within, place_of, index_at, from_left}
 use Rattle.vd_composites.specs.Scalars.{scalar_at, belongs}
-use Rattle.vd_composites.specs.Composites.{Value, One, Array, Fields, Items, none, count, joined, leaves}
+use Rattle.vd_composites.specs.Composites.{Value, Array, Items, count, joined, leaves, items_in}
 use Rattle.vd_composites.specs.Parts.{Step, AtIndex, AtSlice, AtField, part, with_part}
 use Rattle.vd_composites.specs.Subtypes.{Subtype, Scalars, Arrays, fit, HasSubtype, default_of}
 use Rattle.vd_composites.specs.Concatenations.{Operand, Whole, elements_of, concatenation}
@@ -23,12 +23,6 @@ abbrev pub RangesAreAsLong : Type 0
 RangesAreAsLong = (left : ℤ) (down : Bool) (n : ℕ) → length_of (from_left left down n) ≡ n
 
 -- ---- subtypes
-
--- the elements of an array, or the fields of a record
-abbrev pub items_in : {L : Type 0} → Value L → Items L
-items_in (One x) = none
-items_in (Array b vs) = vs
-items_in (Fields vs) = vs
 
 -- A value made one of a subtype has it, and at most its bounds have changed. A value that has it stays as it is.
 pub record FitsOnce : Type 0 where

@@ -1,6 +1,7 @@
 //! Elements, slices and fields, over the nodes of a value.
 
-ghost use Rattle.std.specs.Prelude.{◌≡◌, Some};
+ghost use Rattle.std.specs.Prelude.{◌≡◌, ◌≤◌, Some, drop, length};
+ghost use Rattle.vd_composites.specs.Composites.{items_in};
 ghost use Rattle.vd_composites.specs.Answers.{MadeNodes};
 ghost use Rattle.vd_composites.specs.Nodes.{after, read, slice_start, value_in};
 ghost use Rattle.vd_composites.specs.Parts.{AtField, AtIndex, AtSlice, part};
@@ -53,7 +54,7 @@ pub(crate) fn field_nodes(alloc: Global, nodes: &[Node], number: u32) -> Result<
 }
 
 /// The place of the first element of a slice in an array with these bounds.
-fn start_of(bounds: Bounds, range: Bounds) -> u128
+pub(crate) fn start_of(bounds: Bounds, range: Bounds) -> u128
     ensures { result ≡ slice_start bounds range }
 {
     if range.length() == 0 {
@@ -91,5 +92,38 @@ pub(crate) fn slice_nodes(
     match items_behind(alloc, &head, &nodes[2..], place as usize, items as usize) {
         Ok(made) => Ok(made),
         Err(_) => Err(ValueEnd::Memory),
+    }
+}
+
+/// Where the parts of a value begin among its nodes, and how many they are.
+#[derive(Clone, Copy)]
+pub(crate) struct Body {
+    pub(crate) start: usize,
+    pub(crate) parts: usize,
+}
+
+/// The elements of an array or the fields of a record. A scalar value has none.
+pub(crate) fn body_of(nodes: &[Node]) -> Body
+    requires { after 1 nodes.now ≡ Some 0 }
+    ensures within { result.start ≤ length nodes.now }
+    ensures whole { after result.parts (drop result.start nodes.now) ≡ Some 0 }
+    ensures parts { read (drop result.start nodes.now) ≡ items_in (value_in (read nodes.now)) }
+{
+    let most = nodes.len();
+    if let Some(bounds) = bounds_at(nodes) {
+        return Body {
+            start: 2,
+            parts: bounds.length() as usize,
+        };
+    }
+    match fields_at(nodes) {
+        Some(count) => Body {
+            start: 1,
+            parts: count as usize,
+        },
+        None => Body {
+            start: most,
+            parts: 0,
+        },
     }
 }

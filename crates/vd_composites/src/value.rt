@@ -6,7 +6,7 @@ ghost use Rattle.vd_composites.specs.declared.scalars.ScalarSubtype.{ScalarSubty
 ghost use Rattle.vd_composites.specs.Answers.{Answers, MadeNodes};
 ghost use Rattle.vd_composites.specs.Composites.{One, bounds_of, scalar_of};
 ghost use Rattle.vd_composites.specs.Composites.{Value as AnyValue};
-ghost use Rattle.vd_composites.specs.Nodes.{after};
+ghost use Rattle.vd_composites.specs.Nodes.{after, read, value_in};
 ghost use Rattle.vd_composites.specs.Parts.{AtField, AtIndex, AtSlice, part, with_part};
 ghost use Rattle.vd_composites.specs.Stops.{OrStop};
 ghost use Rattle.vd_composites.specs.Subtypes.{Arrays, Scalars, Subtype, fit};
@@ -16,7 +16,7 @@ use crate::fitting::{fit_bounded_nodes, fit_free_nodes, fit_scalar_nodes};
 use crate::nodes::{Node, bounds_at, node_of, scalar_at};
 use crate::parts::{element_nodes, field_nodes, slice_nodes};
 use crate::ranges::Bounds;
-use crate::replacing::{with_element_nodes, with_field_nodes};
+use crate::replacing::{with_element_nodes, with_field_nodes, with_slice_nodes};
 use crate::scalars::ScalarSubtype;
 use std::alloc::{AllocError, Global};
 use std::marker::Model;
@@ -46,7 +46,7 @@ impl Model for Value {
 }
 
 /// The value of some nodes.
-fn value_from(nodes: Result<Vec<Node>, ValueEnd>) -> Result<Value, ValueEnd>
+pub(crate) fn value_from(nodes: Result<Vec<Node>, ValueEnd>) -> Result<Value, ValueEnd>
     requires { IfOk nodes (λ ns. after 1 ns.items ≡ Some 0) }
     ensures { (g : OrStop (AnyValue Scalar)) → MadeNodes nodes g → Answers result g }
 {
@@ -63,6 +63,14 @@ impl Value {
     {
         let nodes = Vec::from_slice(alloc, &[node_of(scalar)])?;
         Ok(Value { nodes })
+    }
+
+    /// The nodes.
+    pub(crate) fn nodes(&self) -> &[Node]
+        ensures whole { after 1 result.now ≡ Some 0 }
+        ensures items { value_in (read result.now) ≡ self.now }
+    {
+        &self.nodes
     }
 
     /// The scalar value, where the value is one.
@@ -105,6 +113,13 @@ impl Value {
         ensures { Answers result (with_part (AtIndex index) new.now self.now) }
     {
         value_from(with_element_nodes(alloc, &self.nodes, index, &new.nodes))
+    }
+
+    /// The array with the elements of another one, which has as many as the range, in the place of a slice.
+    pub fn with_slice(&self, alloc: Global, range: Bounds, new: &Value) -> Result<Value, ValueEnd>
+        ensures { Answers result (with_part (AtSlice range) new.now self.now) }
+    {
+        value_from(with_slice_nodes(alloc, &self.nodes, range, &new.nodes))
     }
 
     /// The record with another field.
