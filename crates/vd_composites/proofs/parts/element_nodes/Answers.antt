@@ -1,0 +1,22 @@
+use Rattle.std.proofs.Common.{arith, ◌≡◌, ◌<◌, ◌≤◌, ◌+◌, true, sym, ap, ◌∙◌, subst, to_z, of_z, w64}
+use Rattle.std.proofs.lemmas.Int.{to_z-of_z}
+use Rattle.vd_composites.specs.Ranges.{length_of, is_within, place_of}
+use Rattle.vd_composites.proofs.RangeLemmas.{place_below}
+use Rattle.vd_composites.proofs.ValueLemmas.{is_array, elements_wanted, element_made, bare_whole, bare_at}
+use Rattle.vd_composites.proofs.parts.element_nodes.Goals as goal
+
+pub items_behind-requires : goal.items_behind-requires
+items_behind-requires c =
+    let a = is_array c.args.nodes.now c.in-Some.bounds c.requires (sym c.bounds_at.ensures ∙ c.in-Some.is) in
+    let same : to_z w64 (of_z w64 c.args.index) ≡ c.args.index = to_z-of_z w64 c.args.index c.ranges.index in
+    let inside : is_within c.in-Some.bounds c.args.index ≡ true = ap (is_within c.in-Some.bounds) (sym same) ∙ sym c.contains.ensures ∙ c.if-not-contains.false in
+    let below : place_of c.in-Some.bounds c.args.index < length_of c.in-Some.bounds = place_below c.in-Some.bounds c.args.index inside in
+    let place : c.place-place.result ≡ place_of c.in-Some.bounds c.args.index = c.place-place.ensures ∙ ap (place_of c.in-Some.bounds) same in
+    elements_wanted c.args.nodes.now c.in-Some.bounds c.place-place.result 1 a (omega arith)
+
+pub returns-in-Ok : goal.returns-in-Ok
+returns-in-Ok c =
+    let a = is_array c.args.nodes.now c.in-Some.bounds c.requires (sym c.bounds_at.ensures ∙ c.in-Some.is) in
+    let same : to_z w64 (of_z w64 c.args.index) ≡ c.args.index = to_z-of_z w64 c.args.index c.ranges.index in
+    let inside : is_within c.in-Some.bounds c.args.index ≡ true = ap (is_within c.in-Some.bounds) (sym same) ∙ sym c.contains.ensures ∙ c.if-not-contains.false in
+    (bare_whole _ _ _ _ c.in-Ok.ensures, element_made c.args.nodes.now c.in-Some.bounds c.args.index c.in-Ok.made.items a inside (bare_at _ _ _ _ _ (c.place-place.ensures ∙ ap (place_of c.in-Some.bounds) same) c.in-Ok.ensures))

@@ -1,0 +1,36 @@
+-- What the answers of code say. The end is named by its cases, since its type is the code's.
+use Rattle.std.specs.Prelude.{◌≡◌, ℕ, ◌+◌, List, ◌++◌, Some, Result, Ok, Err, Vec}
+use Rattle.std.specs.Global.{Global}
+use Rattle.vd_values.specs.declared.scalar.Scalar.{Scalar}
+use Rattle.vd_composites.specs.declared.ends.ValueEnd.{ValueEnd}
+use Rattle.vd_composites.specs.declared.ends.ValueEnd.TheVariants.{Stop, Memory}
+use Rattle.vd_composites.specs.declared.nodes.Node.{Node}
+use Rattle.vd_composites.specs.Stops.{OrStop}
+use Rattle.vd_composites.specs.Composites.{Value, Items, without, first_of, written}
+use Rattle.vd_composites.specs.Nodes.{read, after, value_in}
+
+-- The value that is defined, or its stop. Memory may run out at any time.
+abbrev pub Answers : Result (Value Scalar) ValueEnd → OrStop (Value Scalar) → Type 0
+Answers (Ok v) g = g ≡ Ok v
+Answers (Err (Stop kind)) g = g ≡ Err kind
+Answers (Err Memory) g = Unit {0}
+
+-- some nodes behind these: those of so many items of a list, from a place on
+pub record HasItems (front : List Node) (ns : List Node) (place items : ℕ) (made : List Node) : Type 0 where
+  pub body : List Node
+  pub behind : made ≡ front ++ body
+  pub whole : after items body ≡ Some 0
+  pub are : read body ≡ first_of items (without place (read ns))
+
+-- the nodes of the value that is defined, or its stop
+abbrev pub MadeNodes : Result (Vec Node Global) ValueEnd → OrStop (Value Scalar) → Type 0
+MadeNodes (Ok ns) g = (after 1 ns.items ≡ Some 0) × (g ≡ Ok (value_in (read ns.items)))
+MadeNodes (Err (Stop kind)) g = g ≡ Err kind
+MadeNodes (Err Memory) g = Unit {0}
+
+-- some nodes behind these: a list of items with others in the place of some, from a place on, of which as many are wanted as before
+pub record Replaces (front : List Node) (ns : List Node) (place items : ℕ) (new made : List Node) : Type 0 where
+  pub body : List Node
+  pub behind : made ≡ front ++ body
+  pub whole : (k : ℕ) → after (place + (items + k)) ns ≡ Some 0 → after (place + (items + k)) body ≡ Some 0
+  pub are : read body ≡ written place (read new) (read ns)

@@ -1,0 +1,12 @@
+pub mod Stops
+pub mod Ranges
+pub mod Scalars
+pub mod Composites
+pub mod Parts
+pub mod Subtypes
+pub mod Concatenations
+pub mod Aggregates
+pub mod Laws
+pub mod Nodes
+pub mod Codes
+pub mod Answers
