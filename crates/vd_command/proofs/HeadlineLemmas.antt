@@ -1,17 +1,19 @@
 -- What the outcome with status 0 is, and when it is due.
-use Rattle.std.proofs.Common.{◌≡◌, ◌⊎◌, ℕ, List, Option, Some, None, IfSome, refl, sym, ap, ◌∙◌, subst, inl, inr}
+use Rattle.std.proofs.Common.{◌≡◌, ℕ, List, Option, Some, None, IfSome, refl, sym, ap, ◌∙◌, subst, inl, inr}
 use Rattle.std.proofs.lemmas.Option.{IfSome_then}
 use Rattle.vd_trees.specs.declared.rows.Row.{Row}
 use Rattle.vd_bytes.specs.declared.channels.Channel.{Channel}
-use Rattle.vd_bytes.specs.Trays.{content_of, Rose}
+use Rattle.vd_bytes.specs.Trays.{content_of}
 use Rattle.vd_first_lex.specs.Lexings.{plain_of}
 use Rattle.vd_first_lower.specs.Conversions.{Answer, refused, beyond, converted, design_text, map_rows, IsConverted, IsConversion}
 use Rattle.vd_first_lower.specs.Steps.{HasOneConversion}
 use Rattle.vd_first_lower.proofs.Faithful.{faithful}
 use Rattle.vd_command.specs.Words.{file_of}
-use Rattle.vd_command.specs.Outcomes.{Due, due_of, conversion, IsFileOutcome, IsWordsOutcome, IsOutcome}
-use Rattle.vd_command.specs.Endings.{GotAll, IsCompleted, IsOutcomeOf, IsReady}
-use Rattle.vd_command.specs.Headline.{GotConversion, HasNoFault, ConvertsFile, IsAcceptable, NamesAcceptable}
+use Rattle.vd_program.specs.Dues.{Due}
+use Rattle.vd_program.specs.Endings.{GotAll}
+use Rattle.vd_command.specs.Outcomes.{due_of, conversion, IsFileOutcome, IsWordsOutcome, IsOutcome}
+use Rattle.vd_command.specs.Endings.{IsOutcomeOf}
+use Rattle.vd_command.specs.Headline.{GotConversion, ConvertsFile, IsAcceptable, NamesAcceptable}
 use Rattle.vd_command.proofs.OneOutcome.{one_outcome}
 
 -- the outcome of files that are told
@@ -91,18 +93,3 @@ pub completed_accepts : HasOneConversion → (told : Option (List (List ℕ × L
     → IfSome told (λ files. NamesAcceptable words files → status ≡ 0)
 completed_accepts one told words status Got x =
     IfSome_then told (told_outcome told words x.0 x.2) (λ files o n. sym x.1 ∙ acceptable_status one words files n x.0 o)
-
--- ---- no fault
-
--- the statuses that a file gives are among those of an outcome
-of_file : (n : ℕ) → (n ≡ 0) ⊎ ((n ≡ 1) ⊎ (n ≡ 6)) → IsCompleted n
-of_file n (inl z) = inl z
-of_file n (inr (inl z)) = inr (inl z)
-of_file n (inr (inr z)) = inr (inr (inr z))
-
-module _ {S : Type 0} (read_faults : S → List ℕ → ℕ) (write_faults : S → ℕ) (old mid new : S) (words : List (List ℕ)) (file : List ℕ) (told : Option (List (List ℕ × List ℕ))) (names : file_of words ≡ Some file) (read_counts : read_faults new file ≡ read_faults mid file) (write_count : write_faults mid ≡ write_faults old) where
-  -- where what is due was written, and no fault came, the outcome is reached
-  pub written_completes : (due : Due) → IsReady read_faults old mid told file due → (status : ℕ) → (status ≡ due.status) ⊎ (status ≡ 4) → (status ≡ 4 → Rose (write_faults mid) (write_faults new)) → HasNoFault read_faults write_faults old new words → IsCompleted status
-  written_completes due (IsReady.faulted rose e) status either four none = absurd (none.reading file names (subst (Rose (read_faults old file)) (sym read_counts) rose))
-  written_completes due (IsReady.formed counts s o) status (inl same) four none = subst IsCompleted (sym same) (of_file due.status s.status)
-  written_completes due (IsReady.formed counts s o) status (inr is_four) four none = absurd (none.writing (subst (λ n. Rose n (write_faults new)) write_count (four is_four)))

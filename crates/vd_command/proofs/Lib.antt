@@ -1,6 +1,6 @@
-pub mod EndingLemmas
+pub mod ConversionLemmas
 pub mod EqualRuns
 pub mod HeadlineLemmas
 pub mod OneOutcome
-pub mod ReadyLemmas
 pub mod SomeOutcome
+pub mod WordsLemmas

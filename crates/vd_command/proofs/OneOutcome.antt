@@ -4,7 +4,8 @@ use Rattle.vd_bytes.specs.Trays.{content_of}
 use Rattle.vd_first_lex.specs.Lexings.{plain_of}
 use Rattle.vd_first_lower.specs.Steps.{HasOneConversion}
 use Rattle.vd_command.specs.Words.{file_of}
-use Rattle.vd_command.specs.Outcomes.{Due, due_of, IsFileOutcome, IsWordsOutcome, HasOneOutcome}
+use Rattle.vd_program.specs.Dues.{Due}
+use Rattle.vd_command.specs.Outcomes.{due_of, IsFileOutcome, IsWordsOutcome, HasOneOutcome}
 
 one_of_file : HasOneConversion → (file content : List ℕ) (a b : Due) → IsFileOutcome file content a → IsFileOutcome file content b → a ≡ b
 one_of_file one file content a b (inl x) (inl y) = x.1 ∙ sym y.1

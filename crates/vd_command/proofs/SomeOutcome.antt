@@ -23,7 +23,8 @@ use Rattle.vd_first_accept.specs.Unknown.{first_unknown}
 use Rattle.vd_first_accept.proofs.UnknownFound.{names_known, names_unknown}
 use Rattle.vd_first_lower.specs.Conversions.{Answer, refused, beyond, converted, design_text, map_rows, IsConversion}
 use Rattle.vd_command.specs.Words.{file_of}
-use Rattle.vd_command.specs.Outcomes.{Due, refused_words, limit_number, limit_passed, due_of, IsFileOutcome, IsWordsOutcome, HasSomeOutcome}
+use Rattle.vd_program.specs.Dues.{Due, refused_words, limit_number, limit_passed}
+use Rattle.vd_command.specs.Outcomes.{due_of, IsFileOutcome, IsWordsOutcome, HasSomeOutcome}
 
 abbrev Conversion : Selected → Type 0
 Conversion s = (a : Answer) × IsConversion s a

@@ -15,7 +15,8 @@ use Rattle.vd_first_grammar.specs.Refusals.{nesting_limit}
 use Rattle.vd_first_names.specs.Maps.{map_text_of}
 use Rattle.vd_first_lower.specs.Headline.{IsText, IsFaithful}
 use Rattle.vd_command.specs.Words.{file_of}
-use Rattle.vd_command.specs.Outcomes.{limit_number, conversion_line}
+use Rattle.vd_program.specs.Dues.{limit_number}
+use Rattle.vd_command.specs.Outcomes.{conversion_line}
 
 -- Design and Map got a design and a map that say what the bytes of a file say, and Console the line of a conversion. The first argument
 -- says what is out on the channels

@@ -1,9 +1,9 @@
 //! The words of the program and its top call.
 #![tactic(auto)]
 
-pub mod console;
+pub mod action;
+mod conversion;
 pub mod laws;
-mod ready;
 pub mod top;
 pub mod words;
 

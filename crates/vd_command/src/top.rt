@@ -1,21 +1,21 @@
 //! The top call: words and files in, a status and bytes on three channels out.
 
-ghost use Rattle.std.specs.Prelude.{◌≡◌, ◌≢◌, ◌<◌, ◌≤◌, ◌⊎◌, ℕ, List, [], length, None, Some, IfOk, OnOk, OnErr, IfSome, IsTrue, IsFalse};
+ghost use Rattle.std.specs.Prelude.{◌≡◌, ◌≢◌, ◌<◌, ◌⊎◌, ℕ, List, None, Some, IfSome, IsTrue};
 ghost use Rattle.vd_bytes.specs.declared.channels.Channel.{Channel};
 ghost use Rattle.vd_bytes.specs.Trays.{Rose, SameCounts};
+ghost use Rattle.vd_program.specs.Dues.{Due, refused_words, read_fault};
+ghost use Rattle.vd_program.specs.Endings.{GotAll, GotFronts, GotNothing, FilesUntouched, BeginsInOrder};
 ghost use Rattle.vd_command.specs.Words.{file_of, texts_of};
-ghost use Rattle.vd_command.specs.Outcomes.{Due, refused_words, read_fault, HasOneOutcome, HasSomeOutcome, IsFileOutcome, IsOutcome};
-ghost use Rattle.vd_command.specs.Endings.{GotAll, GotFronts, GotNothing, FilesUntouched, BeginsInOrder, IsCompleted, IsOutcomeOf, IsDueOrFault, IsReady, due_in, due_with};
+ghost use Rattle.vd_command.specs.Outcomes.{HasOneOutcome, HasSomeOutcome};
+ghost use Rattle.vd_command.specs.Endings.{IsCompleted, IsOutcomeOf, IsDueOrFault};
 ghost use Rattle.vd_command.specs.Headline.{ConvertsFile, HasNoFault, NamesAcceptable};
 
-use crate::console::REFUSED_WORDS;
-use crate::ready::ready_for;
-use crate::words::file_word;
+use crate::action::Action;
+use crate::conversion::Conversion;
+use crate::words::action_of;
 use std::alloc::Global;
-use vd_bytes::{Channel, Tray, WriteFault, write_all};
-
-/// Want of memory.
-const MEMORY: u8 = 5;
+use vd_bytes::Tray;
+use vd_program::{MEMORY, perform, refuse_words};
 
 /// Converts the file that the words name, and answers a status: 0 done, 1 a rule is broken, 2 the words aren't taken,
 /// 3 a fault in reading, 4 a fault in writing, 5 want of memory, 6 a limit is passed.
@@ -74,19 +74,9 @@ pub fn vdown<T: Tray>(alloc: Global, words: &Vec<String>, tray: &mut T) -> u8
     ensures statuses { result < 7 }
     ensures same_files { T.files tray.new ≡ T.files tray.old }
 {
-    let file = match file_word(alloc, words) {
-        Ok(Some(file)) => file,
-        Ok(None) => return write_due(tray, 2, &[], &[], REFUSED_WORDS),
-        Err(_) => return MEMORY,
-    };
-    match ready_for(alloc, tray, file.as_str()) {
-        Ok(ready) => write_due(
-            tray,
-            ready.status,
-            ready.design.as_slice(),
-            &ready.map,
-            &ready.console,
-        ),
+    match action_of(alloc, words) {
+        Ok(Action::Convert(files)) => perform(alloc, &Conversion, files.as_slice(), tray),
+        Ok(Action::RefuseWords) => refuse_words(tray),
         Err(_) => MEMORY,
     }
 }
@@ -101,58 +91,3 @@ pub fn one_outcome()
 pub fn some_outcome()
     ensures { HasSomeOutcome }
 {}
-
-// Writes what is due, and answers its status, or that writing failed.
-fn write_due<T: Tray>(tray: &mut T, status: u8, design: &[u8], map: &[u8], console: &[u8]) -> u8
-    requires no_fault { status ≢ 4 }
-    requires quiet { status ≢ 0 → (design.now ≡ []) × (map.now ≡ []) }
-    ensures all { result ≢ 4 → (result ≡ status)
-        × GotAll T.written tray.old tray.new (due_with status design.now map.now console.now) }
-    ensures fault { result ≡ 4 → Rose (T.write_faults tray.old) (T.write_faults tray.new) }
-    ensures fronts { result ≡ 4
-        → GotFronts T.written tray.old tray.new (due_with status design.now map.now console.now) }
-    ensures read_counts { SameCounts (T.read_faults tray.old) (T.read_faults tray.new) }
-    ensures in_order { result ≡ 4 → BeginsInOrder T.written T.is_begun tray.old tray.new (due_with status design.now map.now console.now) }
-    ensures begun { result ≡ 0 → (to : Channel) → IsTrue (T.is_begun tray.new to) }
-    ensures console_begun { result ≢ 4 → IsTrue (T.is_begun tray.new Channel.Console) }
-    ensures untouched { status ≢ 0 → FilesUntouched T.is_begun tray.old tray.new }
-    ensures no_fault { result ≢ 4 → T.write_faults tray.new ≡ T.write_faults tray.old }
-    ensures no_design { status ≢ 0 → GotNothing T.written tray.old tray.new Channel.Design }
-    ensures no_map { status ≢ 0 → GotNothing T.written tray.old tray.new Channel.Map }
-    ensures same_files { T.files tray.new ≡ T.files tray.old }
-    ensures either { (result ≡ status) ⊎ (result ≡ 4) }
-{
-    match write_channels(tray, status == 0, design, map, console) {
-        Ok(()) => status,
-        Err(_) => 4,
-    }
-}
-
-// Writes the channels in their order; with no conversion the console alone.
-fn write_channels<T: Tray>(
-    tray: &mut T,
-    conversion: bool,
-    design: &[u8],
-    map: &[u8],
-    console: &[u8],
-) -> Result<(), WriteFault>
-    requires quiet { IsFalse conversion → (design.now ≡ []) × (map.now ≡ []) }
-    ensures all { OnOk result (GotAll T.written tray.old tray.new (due_with 0 design.now map.now console.now)) }
-    ensures fault { OnErr result (Rose (T.write_faults tray.old) (T.write_faults tray.new)) }
-    ensures fronts { OnErr result (GotFronts T.written tray.old tray.new (due_with 0 design.now map.now console.now)) }
-    ensures read_counts { SameCounts (T.read_faults tray.old) (T.read_faults tray.new) }
-    ensures in_order { OnErr result (BeginsInOrder T.written T.is_begun tray.old tray.new (due_with 0 design.now map.now console.now)) }
-    ensures begun { OnOk result (IsTrue conversion → (to : Channel) → IsTrue (T.is_begun tray.new to)) }
-    ensures console_begun { OnOk result (IsTrue (T.is_begun tray.new Channel.Console)) }
-    ensures untouched { IsFalse conversion → FilesUntouched T.is_begun tray.old tray.new }
-    ensures no_fault { OnOk result (T.write_faults tray.new ≡ T.write_faults tray.old) }
-    ensures no_design { IsFalse conversion → GotNothing T.written tray.old tray.new Channel.Design }
-    ensures no_map { IsFalse conversion → GotNothing T.written tray.old tray.new Channel.Map }
-    ensures same_files { T.files tray.new ≡ T.files tray.old }
-{
-    if conversion {
-        write_all(tray, Channel::Design, design)?;
-        write_all(tray, Channel::Map, map)?;
-    }
-    write_all(tray, Channel::Console, console)
-}

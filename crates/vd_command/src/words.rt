@@ -1,38 +1,31 @@
 //! The words that are taken.
 
-ghost use Rattle.std.specs.Prelude.{◌≡◌, IfOk, option_map, string_bytes};
+ghost use Rattle.std.specs.Prelude.{IfOk};
 ghost use Rattle.vd_words.specs.Commands.{meaning_in};
-ghost use Rattle.vd_command.specs.Words.{file_of, file_of_meaning, texts_of};
+ghost use Rattle.vd_command.specs.Words.{texts_of, IsActionFor, IsActionOf};
 
+use crate::action::Action;
 use std::alloc::{AllocError, Global};
 use vd_words::{Command, Mode, WordsEnd, read_words};
 
-/// The FILE of a conversion, and nothing for words that aren't taken.
-pub fn file_word(alloc: Global, words: &Vec<String>) -> Result<Option<String>, AllocError>
-    ensures { IfOk result (λ file. option_map string_bytes file ≡ file_of (texts_of words.now.items)) }
+/// What is to be done for these words.
+pub fn action_of(alloc: Global, words: &Vec<String>) -> Result<Action, AllocError>
+    ensures { IfOk result (λ action. IsActionOf action (texts_of words.now.items)) }
 {
     match read_words(alloc, words) {
-        Ok(command) => copied(alloc, named_file(&command)),
-        Err(WordsEnd::NotTaken) => Ok(None),
+        Ok(command) => Ok(action_for(command)),
+        Err(WordsEnd::NotTaken) => Ok(Action::RefuseWords),
         Err(WordsEnd::Memory) => Err(AllocError),
     }
 }
 
-// The FILE of a command that the program has.
-fn named_file(command: &Command) -> Option<&str>
-    ensures { option_map (λ file. file.now) result ≡ file_of_meaning (meaning_in command.now) }
+// What is to be done for a command: the words are taken where the program has its mode, and that takes so many FILEs.
+fn action_for(command: Command) -> Action
+    ensures { IsActionFor result (meaning_in command) }
 {
-    match (command.mode, command.files.as_slice()) {
-        (Mode::Convert, [file]) => Some(file.as_str()),
-        _ => None,
-    }
-}
-
-fn copied(alloc: Global, file: Option<&str>) -> Result<Option<String>, AllocError>
-    ensures { IfOk result (λ copy. option_map string_bytes copy ≡ option_map (λ word. word.now) file.entry) }
-{
-    match file {
-        Some(file) => Ok(Some(String::from_str(alloc, file)?)),
-        None => Ok(None),
+    let Command { mode, files, .. } = command;
+    match mode {
+        Mode::Convert if files.as_slice().len() == 1 => Action::Convert(files),
+        _ => Action::RefuseWords,
     }
 }

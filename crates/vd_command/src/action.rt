@@ -1,0 +1,12 @@
+//! What the program can do.
+
+use vd_words::FileNames;
+
+/// A mode that the program has, with what it needs of the words.
+#[derive(Debug, Drop)]
+pub enum Action {
+    /// Say that the words aren't taken.
+    RefuseWords,
+    /// Convert the one file.
+    Convert(FileNames),
+}
