@@ -221,36 +221,8 @@ fn values_made_values_of_a_subtype(rt: HostRuntime) -> Result<(), Fail> {
 }
 
 #[test]
-fn arrays_of_elements_begin_at_the_index_subtype(rt: HostRuntime) -> Result<(), Fail> {
+fn elements_of_an_array_are_added_in_order(rt: HostRuntime) -> Result<(), Fail> {
     let alloc = rt.alloc();
-    for (index, digits, bounds) in [
-        (to(0, 2147483647), b"101".as_slice(), Some(to(0, 2))),
-        (to(0, 2147483647), b"".as_slice(), Some(to(0, -1))),
-        (to(1, 2147483647), b"101".as_slice(), Some(to(1, 3))),
-        (downto(2, 0), b"101".as_slice(), Some(downto(2, 0))),
-        (downto(2, 0), b"1011".as_slice(), None),
-        (
-            downto(2147483647, 0),
-            b"".as_slice(),
-            Some(downto(2147483647, 2147483648)),
-        ),
-        (
-            to(-2147483647, 0),
-            b"".as_slice(),
-            Some(to(-2147483647, -2147483648)),
-        ),
-    ] {
-        let made = bits(alloc, digits)?.array_on(alloc, integers(index));
-        assert_eq!(rt; bounds_of(&made), bounds);
-        assert_eq!(rt;
-            stop_of(&made),
-            if bounds.is_none() {
-                Some(StopKind::Index)
-            } else {
-                None
-            }
-        );
-    }
     let mut items = bits(alloc, b"10")?;
     items.push_parts(
         &bits(alloc, b"011")?

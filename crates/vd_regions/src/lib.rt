@@ -5,7 +5,5 @@ pub mod entries;
 mod finding;
 pub mod regions;
 mod tables;
-#[cfg(test)]
-mod tests;
 
 pub use regions::{EnterEnd, Regions};
