@@ -84,6 +84,7 @@ by_use_among s around ks = filter (λ k. apart_from s around k && is_alone s ks 
 abbrev pub opens : Scopes → (place inside : ℕ) → Class → Bool
 opens s place inside class.Library = true
 opens s place inside class.Package = (region_at s inside).closed
+opens s place inside class.GenericPackage = (region_at s inside).closed
 opens s place inside class.PackageInstance = (region_at s inside).closed
 opens s place inside class.RecordType = (region_at s inside).closed
 opens s place inside class.Entity = (region_at s inside).closed && list_any (λ r. r == inside) (chain s place)

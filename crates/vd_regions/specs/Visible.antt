@@ -69,6 +69,7 @@ IsVisible s region name k = IsDirect s region name k ⊎ IsByUse s region name k
 abbrev pub Opens : Scopes → (place inside : ℕ) → Class → Type 0
 Opens s place inside class.Library = Unit {0}
 Opens s place inside class.Package = IsTrue (region_at s inside).closed
+Opens s place inside class.GenericPackage = IsTrue (region_at s inside).closed
 Opens s place inside class.PackageInstance = IsTrue (region_at s inside).closed
 Opens s place inside class.RecordType = IsTrue (region_at s inside).closed
 Opens s place inside class.Entity = IsTrue (region_at s inside).closed × Contains (chain s place) inside

@@ -363,9 +363,8 @@ impl Regions {
     {
         match class {
             Class::Library => Ok(true),
-            Class::Package | Class::PackageInstance | Class::RecordType => {
-                Ok(self.is_closed(inside))
-            }
+            Class::Package | Class::GenericPackage | Class::PackageInstance | Class::RecordType =>
+                Ok(self.is_closed(inside)),
             Class::Entity => {
                 let regions = self.chain(alloc, place)?;
                 Ok(self.is_closed(inside) && has(&regions, inside))
