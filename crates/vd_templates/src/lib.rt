@@ -1,0 +1,10 @@
+//! What is written of each form of revision 1993: the templates of the forms.
+#![tactic(auto)]
+
+mod pieces;
+mod rows;
+mod states;
+
+pub use pieces::Piece;
+pub use rows::TEMPLATES;
+pub use states::*;
