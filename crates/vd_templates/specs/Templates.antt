@@ -1,5 +1,5 @@
 -- What is written of a tree: its tokens, and how they stand in lines. Both are read from the templates of the code.
-use Rattle.std.specs.Prelude.{ℕ, ◌-◌, Bool, true, false, nat_lt, nat_eq, if◌then◌else◌, List, [], ◌∷◌, ◌++◌, drop, Option, Some, None, slice_index_or}
+use Rattle.std.specs.Prelude.{ℕ, ◌-◌, true, false, nat_lt, nat_eq, if◌then◌else◌, List, [], ◌∷◌, ◌++◌, drop, Option, Some, None, slice_index_or}
 use Rattle.vd_tokens.specs.declared.kinds.Kind.{Kind}
 use Rattle.vd_tokens.specs.declared.kinds.Kind.TheVariants as kind
 use Rattle.vd_tokens.specs.Lexemes.{Lexeme}
@@ -76,7 +76,7 @@ all_listed separator (w ∷ ws) = token (kind_at separator) [] ∷ w AS_IT_IS ++
 -- what the pieces of a row give of a tree with this form, this text and these parts. `itself` is the tree as it is
 module _ (form : Form) (text : List ℕ) (parts : List Written) (itself : List Item) where
   abbrev pub piece_items : Piece → List Item
-  piece_items (Of state other) = []
+  piece_items (Of state _) = []
   piece_items (AnyOther state) = []
   piece_items (Token symbol) = token (kind_at symbol) [] ∷ []
   piece_items Own = own (leaf_kind form) text

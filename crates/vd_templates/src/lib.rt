@@ -3,8 +3,7 @@
 
 mod pieces;
 mod rows;
-mod states;
+pub mod states;
 
 pub use pieces::Piece;
 pub use rows::TEMPLATES;
-pub use states::*;
