@@ -26,26 +26,26 @@ use Rattle.vd_derivations.proofs.WritingLemmas.{words, each_tokens, bits_tokens,
 
 -- ---- facts
 
-abbrev fact_list : Facts → List ℕ
+abbrev pub fact_list : Facts → List ℕ
 fact_list no_facts = []
 fact_list (fact list first next) = list
 
-abbrev fact_first : Facts → Facts
+abbrev pub fact_first : Facts → Facts
 fact_first no_facts = no_facts
 fact_first (fact list first next) = first
 
-abbrev fact_next : Facts → Facts
+abbrev pub fact_next : Facts → Facts
 fact_next no_facts = no_facts
 fact_next (fact list first next) = next
 
-flag_is : (b : Bool) → flag b ≡ 1 → b ≡ true
+pub flag_is : (b : Bool) → flag b ≡ 1 → b ≡ true
 flag_is true e = refl
 flag_is false e = cc
 
-first_is : (x y : ℕ) (xs ys : List ℕ) → x ∷ xs ≡ y ∷ ys → x ≡ y
+pub first_is : (x y : ℕ) (xs ys : List ℕ) → x ∷ xs ≡ y ∷ ys → x ≡ y
 first_is x y xs ys e = cc
 
-rest_is : (x y : ℕ) (xs ys : List ℕ) → x ∷ xs ≡ y ∷ ys → xs ≡ ys
+pub rest_is : (x y : ℕ) (xs ys : List ℕ) → x ∷ xs ≡ y ∷ ys → xs ≡ ys
 rest_is x y xs ys e = cc
 
 splice_is : (a : Action) → is_splice a ≡ true → a ≡ Splice
@@ -129,7 +129,7 @@ module _ (t : Table) (actions : List Action) (standpoints : List Standpoint) whe
   CanAllStand (w ∷ ws) [] = ⊥
   CanAllStand (w ∷ ws) (x ∷ xs) = CanStand 8 w x × CanAllStand ws xs
 
-  cannot : (n : ℕ) (w : Written) → CanStand n w nothing
+  pub cannot : (n : ℕ) (w : Written) → CanStand n w nothing
   cannot n w = record { at = λ s k e. absurd (no e) }
     where
       no : false ≡ true → ⊥
@@ -180,6 +180,18 @@ module _ (t : Table) (actions : List Action) (standpoints : List Standpoint) whe
       zero_no : zero ≡ length (p ∷ ss) → ⊥
       zero_no e = omega arith
   put_behind (p ∷ ss) (x ∷ xs) (suc j) e = let l : j ≡ length ss = omega arith in put_behind ss xs j l
+
+module _ (t : Table) (actions : List Action) (standpoints : List Standpoint) (n : ℕ) (x : Forest Form) (xs : List (Forest Form)) where
+  -- each tree of a hole may stand there
+  abbrev pub HolesFit : Template → Type 0
+  HolesFit done = Unit {0}
+  HolesFit rest = Unit {0}
+  HolesFit (step q a b) = HolesFit a × HolesFit b
+  HolesFit (token c b) = HolesFit b
+  HolesFit (own c b) = HolesFit b
+  HolesFit (hole zero s d b) = (stands_as standpoints n s (form_of x) ≡ true) × HolesFit d × HolesFit b
+  HolesFit (hole (suc i) s d b) = (stands_as standpoints 8 s (form_of (tree_at xs i)) ≡ true) × HolesFit d × HolesFit b
+  HolesFit (each j s pc sep pn b) = AllStandBare t actions standpoints s (drop j xs) × HolesFit b
 
 -- ---- a template whose holes are filled
 
@@ -275,17 +287,6 @@ module _ (t : Table) (rows : List (List ℕ)) (actions : List Action) (standpoin
     abbrev pub means : Forest Form → Named → Forest Form
     means start = meant actions text k (puts t actions standpoints places (x ∷ xs)) start
 
-    -- each tree of a hole may stand there
-    abbrev pub HolesFit : Template → Type 0
-    HolesFit done = Unit {0}
-    HolesFit rest = Unit {0}
-    HolesFit (step q a b) = HolesFit a × HolesFit b
-    HolesFit (token c b) = HolesFit b
-    HolesFit (own c b) = HolesFit b
-    HolesFit (hole zero s d b) = (stands_as standpoints n s (form_of x) ≡ true) × HolesFit d × HolesFit b
-    HolesFit (hole (suc i) s d b) = (stands_as standpoints 8 s (form_of (tree_at xs i)) ≡ true) × HolesFit d × HolesFit b
-    HolesFit (each j s pc sep pn b) = AllStandBare t actions standpoints s (drop j xs) × HolesFit b
-
     pub record IsFilled (m : Template) : Type 0 where
       pub draft : Draft
       pub derived : Derive t (symbols t rows actions standpoints tail places m) (plain draft)
@@ -352,14 +353,14 @@ module _ (t : Table) (rows : List (List ℕ)) (actions : List Action) (standpoin
     own_grows start (Some g) y = refl
 
     -- the tree of a hole, and its draft
-    drafted : (r s : ℕ) (d b : Template) → s ∷ [] ≡ member_at places r → HolesFit (hole r s d b) → (i : IsHeld (point standpoints s).tail d) → IsFilled b → IsFilled (hole r s d b)
+    drafted : (r s : ℕ) (d b : Template) → s ∷ [] ≡ member_at places r → HolesFit t actions standpoints n x xs (hole r s d b) → (i : IsHeld (point standpoints s).tail d) → IsFilled b → IsFilled (hole r s d b)
     drafted zero s d b there h i ib =
         held_in zero s d b w x (self_tokens (point standpoints s).state) (put_at t actions standpoints places (x ∷ xs) zero s there) i (itself.at s i.draft h.0 i.follows_it) ib
     drafted (suc r) s d b there h i ib =
         held_in (suc r) s d b (slice_index_or ws r unwritten) (tree_at xs r) (sym (append-nil (tokens_in (slice_index_or ws r unwritten (point standpoints s).state))))
         (put_at t actions standpoints places (x ∷ xs) (suc r) s there) i ((can_at t actions standpoints ws xs r can).at s i.draft h.0 i.follows_it) ib
 
-    holes_in : (r s : ℕ) (d b : Template) → HolesFit (hole r s d b) → HolesFit d × HolesFit b
+    holes_in : (r s : ℕ) (d b : Template) → HolesFit t actions standpoints n x xs (hole r s d b) → HolesFit t actions standpoints n x xs d × HolesFit t actions standpoints n x xs b
     holes_in zero s d b h = (h.1, h.2)
     holes_in (suc r) s d b h = (h.1, h.2)
 
@@ -395,7 +396,7 @@ module _ (t : Table) (rows : List (List ℕ)) (actions : List Action) (standpoin
           end_is = ap (λ q. fact_list (fact_next (fact_first q))) e;
         }
 
-    pub filled : (m : Template) → has t rows actions standpoints tail places m ≡ wants t rows actions standpoints tail places m → HolesFit m → IsFilled m
+    pub filled : (m : Template) → has t rows actions standpoints tail places m ≡ wants t rows actions standpoints tail places m → HolesFit t actions standpoints n x xs m → IsFilled m
     filled done e h = record { draft = none; derived = tt; tokens = refl; grown = λ start y. refl }
     filled rest e h = record {
       draft = k;

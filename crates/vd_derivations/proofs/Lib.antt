@@ -1,3 +1,6 @@
 pub mod DraftLemmas
 pub mod WritingLemmas
 pub mod FillingLemmas
+pub mod FormNumbers
+pub mod PartLemmas
+pub mod MadeLemmas

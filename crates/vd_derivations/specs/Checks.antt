@@ -280,15 +280,15 @@ module _ (t : Table) (rows : List (List ℕ)) (actions : List Action) (standpoin
     all_stand unlaid s fs =
         list_all (λ g. not (is_form_of V1993 g) || (stands standpoints 8 s g && (not unlaid || not (is_laid (point standpoints s).state g)))) fs
 
-    abbrev pub holes_stand : Template → Bool
-    holes_stand done = true
-    holes_stand rest = true
-    holes_stand (step q a b) = holes_stand a && holes_stand b
-    holes_stand (token n b) = holes_stand b
-    holes_stand (own k b) = holes_stand b
-    holes_stand (hole zero s d b) = false
-    holes_stand (hole (suc i) s d b) = holes_stand d && holes_stand b
-    holes_stand (each j s pc sep pn b) = all_stand true s (slot_at (slots_of V1993 f) j) && holes_stand b
+    abbrev pub holes_stand : List Slot → Template → Bool
+    holes_stand slots done = true
+    holes_stand slots rest = true
+    holes_stand slots (step q a b) = holes_stand slots a && holes_stand slots b
+    holes_stand slots (token n b) = holes_stand slots b
+    holes_stand slots (own k b) = holes_stand slots b
+    holes_stand slots (hole zero s d b) = false
+    holes_stand slots (hole (suc i) s d b) = holes_stand slots d && holes_stand slots b
+    holes_stand slots (each j s pc sep pn b) = all_stand true s (slot_at slots j) && holes_stand slots b
 
     -- each part may stand at its place
     abbrev pub places_stand : List Slot → List ℕ → Bool
@@ -300,7 +300,7 @@ module _ (t : Table) (rows : List (List ℕ)) (actions : List Action) (standpoin
     abbrev pub fits_parts : Row → Bool
     fits_parts r =
         has_parts (slots_of V1993 f) (behind_first r.places) r.many
-        && (places_stand (slots_of V1993 f) (behind_first r.places) && (holes_stand r.template && leaf_fits (leaf_kind f) r))
+        && (places_stand (slots_of V1993 f) (behind_first r.places) && (holes_stand (slots_of V1993 f) r.template && leaf_fits (leaf_kind f) r))
 
     abbrev pub state_within : Row → ℕ
     state_within r = (point standpoints (left_of r.places)).state
