@@ -4,3 +4,4 @@ pub mod FillingLemmas
 pub mod FormNumbers
 pub mod PartLemmas
 pub mod MadeLemmas
+pub mod StandingLemmas

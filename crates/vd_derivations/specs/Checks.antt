@@ -189,7 +189,13 @@ ways false false next = ref 0 next
 abbrev pub brackets_fit : Form → Bool → Bool → Bool
 brackets_fit f true true = true
 brackets_fit f true false = not (same_form f form.Aggregate)
-brackets_fit f false b = true
+brackets_fit f false true = false
+brackets_fit f false false = true
+
+-- the tree itself has a place
+abbrev pub has_first : List ℕ → Bool
+has_first [] = false
+has_first (p ∷ ps) = true
 
 -- a leaf has no parts
 abbrev pub leaf_fits : Option Kind → Row → Bool
@@ -306,7 +312,7 @@ module _ (t : Table) (rows : List (List ℕ)) (actions : List Action) (standpoin
     state_within r = (point standpoints (left_of r.places)).state
 
     abbrev pub fits_row : Standpoint → Row → Bool
-    fits_row s r = elim r.up [ true ↦ brackets_fit f (is_laid s.state f) (is_laid (state_within r) f) | false ↦ fits_parts r && not (is_laid s.state f) ]
+    fits_row s r = elim r.up [ true ↦ has_first r.places && brackets_fit f (is_laid s.state f) (is_laid (state_within r) f) | false ↦ fits_parts r && not (is_laid s.state f) ]
 
     abbrev pub tree_name : Standpoint → Row → Named → Named
     tree_name s r next = elim r.up [ true ↦ ways (is_laid s.state f) (is_laid (state_within r) f) next | false ↦ made_or_leaf f (leaf_kind f) (all_parts r) next ]
