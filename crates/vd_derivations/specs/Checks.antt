@@ -1,6 +1,6 @@
 -- When rows lead back: what a template derives, leaves and writes is computed with names in place of the parts, and has to be what is
 -- wanted. So the check is one equation of lists for a whole table.
-use Rattle.std.specs.Prelude.{ℕ, zero, suc, Bool, true, false, ◌&&◌, ◌||◌, not, nat_eq, List, [], ◌∷◌, ◌++◌, length, map, Option, Some, None, is_none, slice_index_or, if◌then◌else◌}
+use Rattle.std.specs.Prelude.{ℕ, zero, suc, Bool, true, false, ◌&&◌, ◌||◌, not, nat_eq, nat_lt, List, [], ◌∷◌, ◌++◌, length, map, Option, Some, None, is_none, slice_index_or, if◌then◌else◌}
 use Rattle.std.specs.List.{list_all}
 use Rattle.vd_trees.specs.declared.revision.Revision.TheVariants.{V1993}
 use Rattle.vd_tokens.specs.declared.kinds.Kind.{Kind}
@@ -8,7 +8,7 @@ use Rattle.vd_gram.specs.declared.tables.Table.{Table}
 use Rattle.vd_gram.specs.Claims.{is_terminal}
 use Rattle.vd_forms.specs.declared.form.Form.{Form}
 use Rattle.vd_forms.specs.declared.form.Form.TheVariants as form
-use Rattle.vd_forms.specs.Forms.{same_form, is_among}
+use Rattle.vd_forms.specs.Forms.{form_number, same_form, is_among}
 use Rattle.vd_forms.specs.Slots.{Slot, One, Many, slots_of}
 use Rattle.vd_forms.specs.Validity.{is_form_of, leaf_kind, holders_of_actuals}
 use Rattle.vd_shapes.specs.declared.actions.Action.{Action}
@@ -16,19 +16,21 @@ use Rattle.vd_shapes.specs.declared.actions.Action.TheVariants.{Splice, Make, Wr
 use Rattle.vd_shapes.specs.Shapes.{leaf_form, action_of}
 use Rattle.vd_shapes.specs.Reading.{symbol_of}
 use Rattle.vd_templates.specs.declared.pieces.Piece.{Piece}
-use Rattle.vd_templates.specs.declared.pieces.Piece.TheVariants.{Of, AnyOther, Token, Own, Itself, Part, Listed, Parts, EndLine, Inward, Outward}
+use Rattle.vd_templates.specs.declared.pieces.Piece.TheVariants.{Of, AnyOther, Token, Own, Itself, Part, Listed, Parts, Nothing, EndLine, Inward, Outward}
 use Rattle.vd_templates.specs.declared.states.TheConstants.{AS_IT_IS}
 use Rattle.vd_templates.specs.Templates.{row_of, kind_at}
-use Rattle.vd_derivations.specs.Rows.{Template, done, rest, step, token, own, hole, each, Row, Standpoint, found, point, stands, self_stands, is_laid}
+use Rattle.vd_derivations.specs.Rows.{Template, done, rest, step, token, own, hole, each, Row, Standpoint, found, point, stands, is_laid}
 
 -- ---- what is written
 
--- a piece without the lines: a token, the own text, a part in a state, the parts from one on, what follows in the chain
+-- a piece without the lines: a token, the own text, a part in a state, the parts from one on, the tree itself in a state, what follows in
+-- the chain
 pub data Bit : Type 0 where
   token_bit : (symbol : ℕ) → Bit
   own_bit : (kind : Option Kind) → Bit
   part_bit : (number : ℕ) → (state : ℕ) → Bit
   parts_bit : (from : ℕ) → (separators : List ℕ) → Bit
+  self_bit : (state : ℕ) → Bit
   rest_bit : Bit
 
 -- the bits of a row, with those of the tree as it is in the place of `Itself`
@@ -42,12 +44,28 @@ bits_with f itself (Itself ∷ ps) = itself ++ bits_with f itself ps
 bits_with f itself (Part i s ∷ ps) = part_bit i s ∷ bits_with f itself ps
 bits_with f itself (Listed j n ∷ ps) = parts_bit j (n ∷ []) ∷ bits_with f itself ps
 bits_with f itself (Parts j ∷ ps) = parts_bit j [] ∷ bits_with f itself ps
+bits_with f itself (Nothing ∷ ps) = bits_with f itself ps
 bits_with f itself (EndLine ∷ ps) = bits_with f itself ps
 bits_with f itself (Inward ∷ ps) = bits_with f itself ps
 bits_with f itself (Outward ∷ ps) = bits_with f itself ps
 
+-- all that is written in a state
 abbrev pub bits_of : ℕ → Form → List Bit
-bits_of state f = bits_with f (bits_with f [] (row_of AS_IT_IS f)) (row_of state f)
+bits_of state f =
+    elim (nat_eq state AS_IT_IS) [ true ↦ bits_with f [] (row_of AS_IT_IS f) | false ↦ bits_with f (bits_with f [] (row_of AS_IT_IS f)) (row_of state f) ]
+
+-- the same with the tree as it is
+abbrev pub bits_round : ℕ → Form → List Bit
+bits_round state f = elim (nat_eq state AS_IT_IS) [ true ↦ self_bit AS_IT_IS ∷ [] | false ↦ bits_with f (self_bit AS_IT_IS ∷ []) (row_of state f) ]
+
+-- what a tree in one state is, where another state is left as it stands
+abbrev pub bits_within : ℕ → ℕ → Form → List Bit
+bits_within kept state f = elim (nat_eq state kept) [ true ↦ self_bit state ∷ [] | false ↦ bits_round state f ]
+
+abbrev pub bits_opened : ℕ → Form → List Bit → List Bit
+bits_opened kept f [] = []
+bits_opened kept f (self_bit state ∷ bs) = bits_within kept state f ++ bits_opened kept f bs
+bits_opened kept f (b ∷ bs) = b ∷ bits_opened kept f bs
 
 -- ---- what is left among the trees so far
 
@@ -167,6 +185,11 @@ abbrev pub behind_first : List ℕ → List ℕ
 behind_first [] = []
 behind_first (p ∷ ps) = ps
 
+-- the numbers of forms that revision 2019 alone has
+abbrev pub is_late : ℕ → Bool
+is_late n =
+    elim (nat_lt n 93) [ true ↦ elim (nat_lt n 49) [ true ↦ elim (nat_lt n 22) [ true ↦ elim (nat_lt n 9) [ true ↦ elim (nat_lt n 4) [ true ↦ false | false ↦ true ] | false ↦ elim (nat_lt n 21) [ true ↦ false | false ↦ true ] ] | false ↦ elim (nat_lt n 32) [ true ↦ elim (nat_lt n 27) [ true ↦ false | false ↦ elim (nat_lt n 29) [ true ↦ true | false ↦ elim (nat_lt n 31) [ true ↦ false | false ↦ true ] ] ] | false ↦ elim (nat_lt n 41) [ true ↦ false | false ↦ elim (nat_lt n 42) [ true ↦ true | false ↦ false ] ] ] ] | false ↦ elim (nat_lt n 64) [ true ↦ elim (nat_lt n 53) [ true ↦ true | false ↦ elim (nat_lt n 62) [ true ↦ false | false ↦ true ] ] | false ↦ elim (nat_lt n 78) [ true ↦ false | false ↦ elim (nat_lt n 81) [ true ↦ true | false ↦ false ] ] ] ] | false ↦ elim (nat_lt n 130) [ true ↦ elim (nat_lt n 112) [ true ↦ elim (nat_lt n 103) [ true ↦ elim (nat_lt n 98) [ true ↦ elim (nat_lt n 94) [ true ↦ true | false ↦ elim (nat_lt n 97) [ true ↦ false | false ↦ true ] ] | false ↦ false ] | false ↦ elim (nat_lt n 104) [ true ↦ true | false ↦ false ] ] | false ↦ elim (nat_lt n 117) [ true ↦ elim (nat_lt n 114) [ true ↦ elim (nat_lt n 113) [ true ↦ true | false ↦ false ] | false ↦ true ] | false ↦ elim (nat_lt n 129) [ true ↦ false | false ↦ true ] ] ] | false ↦ elim (nat_lt n 148) [ true ↦ elim (nat_lt n 142) [ true ↦ false | false ↦ true ] | false ↦ elim (nat_lt n 165) [ true ↦ false | false ↦ elim (nat_lt n 171) [ true ↦ true | false ↦ false ] ] ] ] ]
+
 -- a form that may keep brackets of its parts
 abbrev pub is_keeper : Form → Bool
 is_keeper f = is_among holders_of_actuals f || is_among (form.Aggregate ∷ form.Qualification ∷ []) f
@@ -179,18 +202,19 @@ abbrev pub made_or_leaf : Form → Option Kind → Named → Named → Named
 made_or_leaf f None parts next = made f parts next
 made_or_leaf f (Some k) parts next = leaf f next
 
--- a tree that is written in brackets only at this place gets them here
-abbrev pub ways : Bool → Bool → Named → Named
-ways true true next = ref 0 next
-ways true false next = made form.Aggregate (ref 0 nil) next
-ways false true next = nil
-ways false false next = ref 0 next
+abbrev pub round_or_not : Bool → Named → Named
+round_or_not true next = made form.Aggregate (ref 0 nil) next
+round_or_not false next = ref 0 next
 
-abbrev pub brackets_fit : Form → Bool → Bool → Bool
-brackets_fit f true true = true
-brackets_fit f true false = not (same_form f form.Aggregate)
-brackets_fit f false true = false
-brackets_fit f false false = true
+-- a tree that is written in brackets at this place alone gets them here
+abbrev pub brackets_fit : Form → Bool → Bool → Bool → Bool
+brackets_fit f true true false = not (same_form f form.Aggregate)
+brackets_fit f false true true = true
+brackets_fit f false false false = true
+brackets_fit f true true true = false
+brackets_fit f true false c = false
+brackets_fit f false true false = false
+brackets_fit f false false true = false
 
 -- the tree itself has a place
 abbrev pub has_first : List ℕ → Bool
@@ -262,29 +286,46 @@ module _ (t : Table) (rows : List (List ℕ)) (actions : List Action) (standpoin
         (fact (left_of (production_at pn) ∷ []) no_facts no_facts))
         (wants b)
 
+  -- what it writes
+  abbrev pub hole_bits : ℕ → ℕ → List Bit
+  hole_bits zero state = self_bit state ∷ []
+  hole_bits (suc i) state = part_bit i state ∷ []
+
+  abbrev pub bits : Template → List Bit
+  bits done = []
+  bits rest = rest_bit ∷ []
+  bits (step q a b) = bits a ++ bits b
+  bits (token n b) = token_bit n ∷ bits b
+  bits (own k b) = own_bit (Some k) ∷ bits b
+  bits (hole r s d b) = hole_bits r (point standpoints s).state ++ (bits d ++ bits b)
+  bits (each j s pc sep pn b) = parts_bit j sep ∷ bits b
+
+  -- the tree itself has the only holes
+  abbrev pub self_alone : Template → Bool
+  self_alone done = true
+  self_alone rest = true
+  self_alone (step q x y) = self_alone x && self_alone y
+  self_alone (token n y) = self_alone y
+  self_alone (own k y) = self_alone y
+  self_alone (hole zero s d y) = self_alone d && self_alone y
+  self_alone (hole (suc r) s d y) = false
+  self_alone (each j s pc sep pn y) = false
+
+  -- where the tree itself stands
+  abbrev pub place_within : Row → Standpoint
+  place_within r = point standpoints (left_of r.places)
+
   -- ---- a row for a form
 
   module _ (f : Form) where
-    abbrev pub hole_bits : ℕ → ℕ → List Bit
-    hole_bits zero state = bits_of state f
-    hole_bits (suc i) state = part_bit i state ∷ []
+    -- a form of the revision may stand there, and has no brackets there where none may be written
+    abbrev pub can_be_there : Bool → ℕ → Form → Bool
+    can_be_there unlaid s g =
+        elim (is_late (form_number g)) [ true ↦ true | false ↦
+        elim (stands standpoints s g) [ true ↦ elim unlaid [ true ↦ not (is_laid (point standpoints s).state g) | false ↦ true ] | false ↦ false ] ]
 
-    abbrev pub bits : Template → List Bit
-    bits done = []
-    bits rest = rest_bit ∷ []
-    bits (step q a b) = bits a ++ bits b
-    bits (token n b) = token_bit n ∷ bits b
-    bits (own k b) = own_bit (Some k) ∷ bits b
-    bits (hole r s d b) = hole_bits r (point standpoints s).state ++ (bits d ++ bits b)
-    bits (each j s pc sep pn b) = parts_bit j sep ∷ bits b
-
-    abbrev pub wanted_bits : Standpoint → List Bit
-    wanted_bits s = bits_of s.state f ++ tail_bits s.tail
-
-    -- each form of the revision among these may stand there, and has no brackets there where none may be written
     abbrev pub all_stand : Bool → ℕ → List Form → Bool
-    all_stand unlaid s fs =
-        list_all (λ g. not (is_form_of V1993 g) || (stands standpoints 8 s g && (not unlaid || not (is_laid (point standpoints s).state g)))) fs
+    all_stand unlaid s fs = list_all (can_be_there unlaid s) fs
 
     abbrev pub holes_stand : List Slot → Template → Bool
     holes_stand slots done = true
@@ -308,40 +349,60 @@ module _ (t : Table) (rows : List (List ℕ)) (actions : List Action) (standpoin
         has_parts (slots_of V1993 f) (behind_first r.places) r.many
         && (places_stand (slots_of V1993 f) (behind_first r.places) && (holes_stand (slots_of V1993 f) r.template && leaf_fits (leaf_kind f) r))
 
-    abbrev pub state_within : Row → ℕ
-    state_within r = (point standpoints (left_of r.places)).state
-
     abbrev pub fits_row : Standpoint → Row → Bool
-    fits_row s r = elim r.up [ true ↦ has_first r.places && brackets_fit f (is_laid s.state f) (is_laid (state_within r) f) | false ↦ fits_parts r && not (is_laid s.state f) ]
+    fits_row s r =
+        elim r.up [
+          | true ↦ stands standpoints (left_of r.places) f && brackets_fit f r.round (is_laid s.state f) (is_laid (place_within r).state f)
+          | false ↦ fits_parts r && not (is_laid s.state f)
+        ]
 
-    abbrev pub tree_name : Standpoint → Row → Named → Named
-    tree_name s r next = elim r.up [ true ↦ ways (is_laid s.state f) (is_laid (state_within r) f) next | false ↦ made_or_leaf f (leaf_kind f) (all_parts r) next ]
+    abbrev pub row_writes : Standpoint → Row → List Bit
+    row_writes s r = elim r.up [ true ↦ bits_opened s.state f (bits r.template) | false ↦ bits r.template ]
 
-    abbrev pub wanted_name : Option ℕ → Standpoint → Row → Named
-    wanted_name None s r = tree_name s r base
-    wanted_name (Some c) s r = after (tree_name s r nil) base
+    abbrev pub wanted_bits : Standpoint → Row → List Bit
+    wanted_bits s r = elim r.up [ true ↦ bits_within (place_within r).state s.state f | false ↦ bits_of s.state f ] ++ tail_bits s.tail
+
+  abbrev pub tree_name : Row → List Form → Named → Named
+  tree_name r [] next = nil
+  tree_name r (f ∷ fs) next = elim r.up [ true ↦ round_or_not r.round next | false ↦ made_or_leaf f (leaf_kind f) (all_parts r) next ]
+
+  abbrev pub wanted_name : Option ℕ → Row → Named
+  wanted_name None r = tree_name r r.forms base
+  wanted_name (Some c) r = after (tree_name r r.forms nil) base
+
+  abbrev pub is_one : List Form → Bool
+  is_one [] = false
+  is_one (f ∷ []) = true
+  is_one (f ∷ g ∷ fs) = false
+
+  abbrev pub row_fits : Standpoint → Row → Bool
+  row_fits s r = elim r.up [ true ↦ has_first r.places && (nat_lt (place_within r).level s.level && self_alone r.template) | false ↦ is_one r.forms ]
 
   -- what is computed of a row and a form, and what is wanted
   pub record Answer : Type 0 where
-    pub leaves : Named
     pub writes : List Bit
     pub fits : Bool
 
   abbrev pub answer : Standpoint → Row → Form → Answer
-  answer s r f = record { leaves = left_by r.template base; writes = bits f r.template; fits = fits_row f s r }
+  answer s r f = record { writes = row_writes f s r; fits = fits_row f s r }
 
   abbrev pub wanted_answer : Standpoint → Row → Form → Answer
-  wanted_answer s r f = record { leaves = wanted_name f s.tail s r; writes = wanted_bits f s; fits = true }
+  wanted_answer s r f = record { writes = wanted_bits f s r; fits = true }
 
+  -- what is computed of a row
   pub record RowAnswer : Type 0 where
     pub derives : List ℕ
     pub facts : Facts
+    pub leaves : Named
+    pub fits : Bool
     pub answers : List Answer
 
   abbrev pub row_answer : Standpoint → Row → RowAnswer
   row_answer s r = record {
     derives = symbols s.tail r.places r.template;
     facts = has s.tail r.places r.template;
+    leaves = left_by r.template base;
+    fits = row_fits s r;
     answers = map (answer s r) r.forms;
   }
 
@@ -349,6 +410,8 @@ module _ (t : Table) (rows : List (List ℕ)) (actions : List Action) (standpoin
   wanted_row_answer s r = record {
     derives = s.head ∷ [];
     facts = wants s.tail r.places r.template;
+    leaves = wanted_name s.tail r;
+    fits = true;
     answers = map (wanted_answer s r) r.forms;
   }
 

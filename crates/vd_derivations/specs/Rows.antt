@@ -1,5 +1,5 @@
 -- How a tree is derived: pieces of derivations with holes for the tree's parts, for each form and each place where it may stand.
-use Rattle.std.specs.Prelude.{ℕ, zero, suc, Bool, true, false, ◌&&◌, nat_eq, List, [], ◌∷◌, ◌++◌, Option, Some, None, slice_index_or}
+use Rattle.std.specs.Prelude.{ℕ, Bool, true, false, ◌&&◌, not, nat_eq, nat_le, List, [], ◌∷◌, Option, Some, None, is_some, slice_index_or}
 use Rattle.vd_tokens.specs.declared.kinds.Kind.{Kind}
 use Rattle.vd_bytes.specs.declared.places.Place.{Place}
 use Rattle.vd_forest.specs.Forest.{Forest, nothing, more, with_next, joined, no_place}
@@ -7,9 +7,7 @@ use Rattle.vd_forms.specs.declared.form.Form.{Form}
 use Rattle.vd_forms.specs.declared.form.Form.TheVariants as form
 use Rattle.vd_forms.specs.Forms.{is_among, expressions}
 use Rattle.vd_shapes.specs.declared.actions.Action.{Action}
-use Rattle.vd_templates.specs.declared.pieces.Piece.{Piece}
-use Rattle.vd_templates.specs.declared.pieces.Piece.TheVariants.{Of, AnyOther, Token, Own, Itself, Part, Listed, Parts, EndLine, Inward, Outward}
-use Rattle.vd_templates.specs.Templates.{row_of}
+use Rattle.vd_templates.specs.declared.states.TheConstants.{OPERAND, LEFT_OF_AND, LEFT_OF_OR, LEFT_OF_XOR, LEFT_OF_XNOR, LEFT_OF_SUM, LEFT_OF_PRODUCT}
 use Rattle.vd_derivations.specs.Drafts.{Draft, grows}
 
 -- A piece of a derivation, and then what stands behind it. `hole` 0 is for the tree itself, at another place, and the others are
@@ -25,66 +23,65 @@ pub data Template : Type 0 where
   each : (from : ℕ) → (place : ℕ) → (more : ℕ) → (separators : List ℕ) → (end : ℕ) → (next : Template) → Template
 
 -- A row is for trees of these forms. `up`: they stand as trees at another place do. Else the row makes the tree of its parts.
--- `places` are those of the holes, in order, that of the tree itself first
+-- `places` are those of the holes, in order, that of the tree itself first. `round`: the row puts brackets round the tree
 pub record Row : Type 0 where
   pub forms : List Form
   pub up : Bool
+  pub round : Bool
   pub places : List ℕ
   pub many : Bool
   pub template : Template
 
 -- A place where trees may stand: the symbol that they are derived from, the symbol of what follows in a chain, and the state in which
--- they are written
+-- they are written. A tree stands as it does at another place only where that has a lower level
 pub record Standpoint : Type 0 where
+  pub level : ℕ
   pub head : ℕ
   pub tail : Option ℕ
   pub state : ℕ
   pub rows : List Row
 
 abbrev pub nowhere : Standpoint
-nowhere = record { head = 0; tail = None; state = 0; rows = [] }
+nowhere = record { level = 0; head = 0; tail = None; state = 0; rows = [] }
+
+-- the operands that need no brackets
+abbrev pub primaries : List Form
+primaries = form.Name ∷ form.Number ∷ form.Letter ∷ form.Quoted ∷ form.Bits ∷ form.Aggregate ∷ form.PhysicalLiteral ∷ form.OperatorName ∷ []
 
 abbrev pub found : List Row → Form → Option Row
 found [] f = None
 found (r ∷ rs) f = elim (is_among r.forms f) [ true ↦ Some r | false ↦ found rs f ]
 
--- each hole is for the tree itself, at a place where it may stand
-abbrev pub self_stands : (ℕ → Bool) → Template → Bool
-self_stands b done = true
-self_stands b rest = true
-self_stands b (step q x y) = self_stands b x && self_stands b y
-self_stands b (token n y) = self_stands b y
-self_stands b (own k y) = self_stands b y
-self_stands b (hole zero s d y) = b s && (self_stands b d && self_stands b y)
-self_stands b (hole (suc r) s d y) = false
-self_stands b (each j s pc sep pn y) = false
-
-abbrev pub row_stands : Option Row → (ℕ → Bool) → Bool
-row_stands None b = false
-row_stands (Some r) b = elim r.up [ true ↦ self_stands b r.template | false ↦ true ]
-
 module _ (standpoints : List Standpoint) where
   abbrev pub point : ℕ → Standpoint
   point s = slice_index_or standpoints s nowhere
 
-  -- a tree of the form may stand there, by a way of fewer than so many places
-  abbrev pub stands : ℕ → ℕ → Form → Bool
-  stands zero s f = false
-  stands (suc n) s f = row_stands (found (point s).rows f) (λ p. stands n p f)
+  -- a tree of the form may stand there
+  abbrev pub stands : ℕ → Form → Bool
+  stands s f = is_some (found (point s).rows f)
 
-  abbrev pub stands_as : ℕ → ℕ → Option Form → Bool
-  stands_as n s None = false
-  stands_as n s (Some f) = stands n s f
+  abbrev pub stands_as : ℕ → Option Form → Bool
+  stands_as s None = false
+  stands_as s (Some f) = stands s f
 
 -- ---- brackets that are written
 
-abbrev pub is_round : List Piece → Bool
-is_round (Token n ∷ Itself ∷ ps) = nat_eq n 7
-is_round _ = false
+-- what stands without brackets in the states of operands: primaries, and left operands of the same operators
+abbrev pub bare_forms : ℕ → List Form
+bare_forms state =
+    elim (nat_eq state LEFT_OF_AND) [ true ↦ form.And ∷ primaries | false ↦
+    elim (nat_eq state LEFT_OF_OR) [ true ↦ form.Or ∷ primaries | false ↦
+    elim (nat_eq state LEFT_OF_XOR) [ true ↦ form.Xor ∷ primaries | false ↦
+    elim (nat_eq state LEFT_OF_XNOR) [ true ↦ form.Xnor ∷ primaries | false ↦
+    elim (nat_eq state LEFT_OF_SUM) [ true ↦ form.Add ∷ form.Subtract ∷ form.Concatenate ∷ primaries | false ↦
+    elim (nat_eq state LEFT_OF_PRODUCT) [ true ↦ form.Multiply ∷ form.Divide ∷ form.Modulo ∷ form.Remainder ∷ primaries | false ↦ primaries ] ] ] ] ] ]
+
+abbrev pub is_operand : ℕ → Bool
+is_operand state = nat_le OPERAND state && nat_le state LEFT_OF_PRODUCT
 
 -- in the state a tree of the form is written in brackets, and is an expression
 abbrev pub is_laid : ℕ → Form → Bool
-is_laid state f = is_among expressions f && is_round (row_of state f)
+is_laid state f = elim (is_operand state) [ true ↦ is_among expressions f && not (is_among (bare_forms state) f) | false ↦ false ]
 
 abbrev pub laid : Bool → Forest Form → Forest Form
 laid true x = more form.Aggregate [] no_place x nothing
