@@ -3,7 +3,8 @@ use Rattle.std.specs.Prelude.{ℕ, true, false, List, [], ◌∷◌, Some, None}
 use Rattle.vd_tokens.specs.declared.kinds.Kind.TheVariants as kind
 use Rattle.vd_forms.specs.declared.form.Form.TheVariants as form
 use Rattle.vd_shapes.specs.declared.terminals.TheConstants.{ARROW, AT_LEAST, BAR, BECOMES, BITS, BOX, CLOSE, COLON, COMMA, DOT, EQUAL, GIVES, GREATER, JOIN, LESS, LETTER, MINUS, NAME, NUMBER, OPEN, OVER, PLUS, POWER, QUOTED, SEMICOLON, TICK, TIMES, UNEQUAL, WORD_ABS, WORD_AFTER, WORD_ALL, WORD_AND, WORD_ARCHITECTURE, WORD_ARRAY, WORD_ASSERT, WORD_BEGIN, WORD_BODY, WORD_CASE, WORD_CONSTANT, WORD_DOWNTO, WORD_ELSE, WORD_ELSIF, WORD_END, WORD_ENTITY, WORD_EXIT, WORD_FOR, WORD_FUNCTION, WORD_GENERATE, WORD_GENERIC, WORD_IF, WORD_IN, WORD_INERTIAL, WORD_INOUT, WORD_IS, WORD_LIBRARY, WORD_LOOP, WORD_MAP, WORD_MOD, WORD_NAND, WORD_NEXT, WORD_NOR, WORD_NOT, WORD_NULL, WORD_OF, WORD_ON, WORD_OPEN, WORD_OR, WORD_OTHERS, WORD_OUT, WORD_PACKAGE, WORD_PORT, WORD_PROCESS, WORD_PURE, WORD_RANGE, WORD_RECORD, WORD_REM, WORD_REPORT, WORD_RETURN, WORD_ROL, WORD_ROR, WORD_SELECT, WORD_SEVERITY, WORD_SIGNAL, WORD_SLA, WORD_SLL, WORD_SRA, WORD_SRL, WORD_SUBTYPE, WORD_THEN, WORD_TO, WORD_TRANSPORT, WORD_TYPE, WORD_UNAFFECTED, WORD_UNTIL, WORD_USE, WORD_VARIABLE, WORD_WAIT, WORD_WHEN, WORD_WHILE, WORD_WITH, WORD_XNOR, WORD_XOR}
-use Rattle.vd_derivations.specs.Rows.{Template, done, rest, step, token, own, hole, each, Standpoint}
+use Rattle.vd_derivations.specs.Rows.{done, rest, step, token, own, hole, each, Standpoint}
+use Rattle.vd_derivations.specs.Laws.{FileRow}
 
 abbrev pub standpoints : List Standpoint
 standpoints =
@@ -893,5 +894,5 @@ standpoints =
     ∷ []
 
 -- the units of a file
-abbrev pub file_template : Template
-file_template = step 0 (each 0 0 1 [] 2 done) done
+abbrev pub file_row : FileRow
+file_row = record { production = 0; place = 0; more = 1; end = 2 }
