@@ -30,6 +30,15 @@ abbrev pub labelled_in_bodies : Revision → List Form
 labelled_in_bodies V2019 = form.SelectedSignalAssignment ∷ unlabelled_sequential
 labelled_in_bodies V1993 = unlabelled_sequential
 
+-- packages and functions have generics, and a generate of `if` an `else`, in revision 2019 alone
+abbrev pub generics_of_bodies : Revision → List Form
+generics_of_bodies V2019 = form.GenericClause ∷ form.Absent ∷ []
+generics_of_bodies V1993 = form.Absent ∷ []
+
+abbrev pub generated_else : Revision → List Form
+generated_else V2019 = form.GenerateBody ∷ form.Absent ∷ []
+generated_else V1993 = form.Absent ∷ []
+
 -- The slots of a form's parts. Brackets are no form, so an operand may be any expression. A form that only revision 2019 has is
 -- left out of trees of 1993 by the rule that says of which revision a form is, and not here
 abbrev pub slots_of : Revision → Form → List Slot
@@ -75,7 +84,7 @@ slots_of r form.DeclarativePart = Many declarations ∷ []
 slots_of r form.StatementPart = Many concurrent_statements ∷ []
 slots_of r form.PackageBody = One (form.Identifier ∷ []) ∷ One (form.DeclarativePart ∷ []) ∷ One (form.Closing ∷ []) ∷ []
 slots_of r form.PackageInstantiation = One (form.Identifier ∷ []) ∷ One (form.SelectedName ∷ []) ∷ One (form.GenericMap ∷ form.Absent ∷ []) ∷ []
-slots_of r form.PackageDeclaration = One (form.Identifier ∷ []) ∷ One (form.GenericClause ∷ form.Absent ∷ []) ∷ One (form.DeclarativePart ∷ []) ∷ One (form.Closing ∷ []) ∷ []
+slots_of r form.PackageDeclaration = One (form.Identifier ∷ []) ∷ One (generics_of_bodies r) ∷ One (form.DeclarativePart ∷ []) ∷ One (form.Closing ∷ []) ∷ []
 slots_of r form.GenericMap = One elements ∷ Many elements ∷ []
 slots_of r form.ConstantDeclaration = One (form.IdentifierList ∷ []) ∷ One (form.SubtypeIndication ∷ []) ∷ One expressions ∷ []
 slots_of r form.SignalDeclaration = One (form.IdentifierList ∷ []) ∷ One (form.SubtypeIndication ∷ []) ∷ One (form.Absent ∷ expressions) ∷ []
@@ -97,8 +106,8 @@ slots_of r form.RecordElements = One (form.RecordElement ∷ []) ∷ Many (form.
 slots_of r form.RecordElement = One (form.IdentifierList ∷ []) ∷ One (form.SubtypeIndication ∷ []) ∷ []
 slots_of r form.FunctionInstantiation = One (form.PureWord ∷ form.Absent ∷ []) ∷ One (form.Identifier ∷ form.Quoted ∷ []) ∷ One (form.SelectedName ∷ []) ∷ One (form.GenericMap ∷ form.Absent ∷ []) ∷ []
 slots_of r form.ParameterWord = []
-slots_of r form.FunctionDeclaration = One (form.PureWord ∷ form.Absent ∷ []) ∷ One (form.Identifier ∷ form.Quoted ∷ []) ∷ One (form.GenericClause ∷ form.Absent ∷ []) ∷ One (form.ParameterWord ∷ form.Absent ∷ []) ∷ One (form.ParameterList ∷ form.Absent ∷ []) ∷ One (form.SelectedName ∷ []) ∷ []
-slots_of r form.FunctionBody = One (form.PureWord ∷ form.Absent ∷ []) ∷ One (form.Identifier ∷ form.Quoted ∷ []) ∷ One (form.GenericClause ∷ form.Absent ∷ []) ∷ One (form.ParameterWord ∷ form.Absent ∷ []) ∷ One (form.ParameterList ∷ form.Absent ∷ []) ∷ One (form.SelectedName ∷ []) ∷ One (form.DeclarativePart ∷ []) ∷ One (form.Statements ∷ []) ∷ One (form.FunctionClosing ∷ []) ∷ []
+slots_of r form.FunctionDeclaration = One (form.PureWord ∷ form.Absent ∷ []) ∷ One (form.Identifier ∷ form.Quoted ∷ []) ∷ One (generics_of_bodies r) ∷ One (form.ParameterWord ∷ form.Absent ∷ []) ∷ One (form.ParameterList ∷ form.Absent ∷ []) ∷ One (form.SelectedName ∷ []) ∷ []
+slots_of r form.FunctionBody = One (form.PureWord ∷ form.Absent ∷ []) ∷ One (form.Identifier ∷ form.Quoted ∷ []) ∷ One (generics_of_bodies r) ∷ One (form.ParameterWord ∷ form.Absent ∷ []) ∷ One (form.ParameterList ∷ form.Absent ∷ []) ∷ One (form.SelectedName ∷ []) ∷ One (form.DeclarativePart ∷ []) ∷ One (form.Statements ∷ []) ∷ One (form.FunctionClosing ∷ []) ∷ []
 slots_of r form.FunctionClosing = One (form.ClosingWord ∷ form.Absent ∷ []) ∷ One (form.Identifier ∷ form.Quoted ∷ form.Absent ∷ []) ∷ []
 slots_of r form.Statements = Many (statements_in_bodies r) ∷ []
 slots_of r form.LabelledStatement = One (form.Identifier ∷ []) ∷ One (labelled_in_bodies r) ∷ []
@@ -143,7 +152,7 @@ slots_of r form.ProcessStatement = One (sensitivities r) ∷ One (form.Is ∷ fo
 slots_of r form.Is = []
 slots_of r form.EntityInstantiation = One (form.SelectedName ∷ []) ∷ One (form.Identifier ∷ form.Absent ∷ []) ∷ One (form.GenericMap ∷ form.Absent ∷ []) ∷ One (form.PortMap ∷ form.Absent ∷ []) ∷ []
 slots_of r form.PortMap = One elements ∷ Many elements ∷ []
-slots_of r form.IfGenerate = One expressions ∷ One (form.GenerateBody ∷ []) ∷ One (form.ElsifGenerates ∷ []) ∷ One (form.GenerateBody ∷ form.Absent ∷ []) ∷ One (form.Identifier ∷ form.Absent ∷ []) ∷ []
+slots_of r form.IfGenerate = One expressions ∷ One (form.GenerateBody ∷ []) ∷ One (form.ElsifGenerates ∷ []) ∷ One (generated_else r) ∷ One (form.Identifier ∷ form.Absent ∷ []) ∷ []
 slots_of r form.ForGenerate = One (form.Identifier ∷ []) ∷ One ranges ∷ One (form.GenerateBody ∷ []) ∷ One (form.Identifier ∷ form.Absent ∷ []) ∷ []
 slots_of r form.CaseGenerate = One expressions ∷ One (form.GenerateAlternatives ∷ []) ∷ One (form.Identifier ∷ form.Absent ∷ []) ∷ []
 slots_of r form.ElsifGenerates = Many (form.ElsifGenerate ∷ []) ∷ []
