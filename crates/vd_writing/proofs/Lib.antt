@@ -1,2 +1,3 @@
 pub mod HeadLemmas
+pub mod PendingLemmas
 pub mod StartLemmas

@@ -2,4 +2,10 @@
 #![tactic(auto)]
 
 mod finding;
+mod items;
 mod rows;
+mod stack;
+mod tokens;
+
+pub use items::{Item, Items};
+pub use tokens::derive93;
