@@ -1,16 +1,16 @@
 -- A step of the stack writes what its last frame had.
-use Rattle.std.proofs.Common.{◌≡◌, ℕ, zero, suc, Bool, true, false, List, [], ◌∷◌, ◌++◌, drop, get_or, append_assoc, Option, Some, None, is_some, refl, sym, ap, ◌∙◌, subst}
+use Rattle.std.proofs.Common.{◌≡◌, ℕ, zero, suc, Bool, false, List, [], ◌∷◌, ◌++◌, drop, get_or, append_assoc, Option, Some, None, is_some, refl, sym, ap, ◌∙◌, subst}
 use Rattle.std.proofs.lemmas.List.{append-nil}
-use Rattle.vd_forest.specs.Forest.{Forest, nothing, more, skipped, next_of}
+use Rattle.vd_forest.specs.Forest.{Forest, nothing, more, skipped}
 use Rattle.vd_forms.specs.declared.form.Form.{Form}
 use Rattle.vd_templates.specs.declared.pieces.Piece.{Piece}
 use Rattle.vd_templates.specs.declared.pieces.Piece.TheVariants.{Part, Listed, Parts}
-use Rattle.vd_templates.specs.Templates.{row_in, Item, Written, unwritten, row_items, all_written, all_listed}
+use Rattle.vd_templates.specs.Templates.{unwritten, all_written, all_listed}
 use Rattle.vd_writing.specs.declared.stack.Node.{Node}
 use Rattle.vd_writing.specs.declared.stack.Frame.{Frame}
 use Rattle.vd_writing.specs.declared.items.Item.{Item as Given}
 use Rattle.std.proofs.lemmas.Bool.{true≢false}
-use Rattle.vd_writing.specs.Pending.{as_by, tree_by, first_by, written_by, node_piece, frame_items, pending, shown}
+use Rattle.vd_writing.specs.Pending.{first_by, written_by, node_piece, frame_items, pending, shown}
 
 module _ (table : List Piece) where
   pub pending_push : (fs : List Frame) (f : Frame) → pending table (fs ++ f ∷ []) ≡ frame_items table f ++ pending table fs

@@ -8,8 +8,8 @@ use crate::finding::{find, number_of};
 use std::alloc::{AllocError, Global};
 use std::marker::Model;
 use vd_forms::Form;
-use vd_templates::states::State;
 use vd_templates::Piece;
+use vd_templates::states::State;
 
 /// How many states there are. Rows of further states are looked for each time.
 pub const STATES: usize = 23;

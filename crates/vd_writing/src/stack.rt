@@ -150,10 +150,18 @@ fn push_piece<'a>(
             push_first(rows, stack, state, &node.parts.skip(u32::from(number)))
         }
         Piece::Listed(number, symbol) => {
-            push(rows, stack, Frame::Listed(symbol, node.parts.skip(u32::from(number))))
+            push(
+                rows,
+                stack,
+                Frame::Listed(symbol, node.parts.skip(u32::from(number))),
+            )
         }
         Piece::Parts(number) => {
-            push(rows, stack, Frame::Trees(node.parts.skip(u32::from(number))))
+            push(
+                rows,
+                stack,
+                Frame::Trees(node.parts.skip(u32::from(number))),
+            )
         }
         _ => Ok(()),
     }
