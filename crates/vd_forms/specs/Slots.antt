@@ -39,6 +39,11 @@ abbrev pub generated_else : Revision → List Form
 generated_else V2019 = form.GenerateBody ∷ form.Absent ∷ []
 generated_else V1993 = form.Absent ∷ []
 
+-- and such a generate has no further conditions
+abbrev pub elsif_generates : Revision → List Slot
+elsif_generates V2019 = Many (form.ElsifGenerate ∷ []) ∷ []
+elsif_generates V1993 = []
+
 -- The slots of a form's parts. Brackets are no form, so an operand may be any expression. A form that only revision 2019 has is
 -- left out of trees of 1993 by the rule that says of which revision a form is, and not here
 abbrev pub slots_of : Revision → Form → List Slot
@@ -155,7 +160,7 @@ slots_of r form.PortMap = One elements ∷ Many elements ∷ []
 slots_of r form.IfGenerate = One expressions ∷ One (form.GenerateBody ∷ []) ∷ One (form.ElsifGenerates ∷ []) ∷ One (generated_else r) ∷ One (form.Identifier ∷ form.Absent ∷ []) ∷ []
 slots_of r form.ForGenerate = One (form.Identifier ∷ []) ∷ One ranges ∷ One (form.GenerateBody ∷ []) ∷ One (form.Identifier ∷ form.Absent ∷ []) ∷ []
 slots_of r form.CaseGenerate = One expressions ∷ One (form.GenerateAlternatives ∷ []) ∷ One (form.Identifier ∷ form.Absent ∷ []) ∷ []
-slots_of r form.ElsifGenerates = Many (form.ElsifGenerate ∷ []) ∷ []
+slots_of r form.ElsifGenerates = elsif_generates r
 slots_of r form.ElsifGenerate = One expressions ∷ One (form.GenerateBody ∷ []) ∷ []
 slots_of r form.GenerateAlternatives = Many (form.GenerateAlternative ∷ []) ∷ []
 slots_of r form.GenerateAlternative = One (form.Others ∷ form.Choices ∷ []) ∷ One (form.GenerateBody ∷ []) ∷ []

@@ -8,7 +8,7 @@ use Rattle.vd_forms.specs.declared.form.Form.{Form}
 use Rattle.vd_forms.specs.Forms.{same_form}
 use Rattle.vd_forms.specs.Validity.{leaf_kind}
 use Rattle.vd_templates.specs.declared.pieces.Piece.{Piece}
-use Rattle.vd_templates.specs.declared.pieces.Piece.TheVariants.{Of, AnyOther, Token, Own, Itself, Part, Listed, Parts, EndLine, Inward, Outward}
+use Rattle.vd_templates.specs.declared.pieces.Piece.TheVariants.{Of, AnyOther, Token, Own, Itself, Part, Listed, Parts, Nothing, EndLine, Inward, Outward}
 use Rattle.vd_templates.specs.declared.rows.TheConstants.{TEMPLATES}
 use Rattle.vd_templates.specs.declared.states.TheConstants.{AS_IT_IS}
 
@@ -84,6 +84,7 @@ module _ (form : Form) (text : List ℕ) (parts : List Written) (itself : List I
   piece_items (Part number state) = slice_index_or parts number unwritten state
   piece_items (Listed number separator) = all_listed separator (drop number parts)
   piece_items (Parts number) = all_written (drop number parts)
+  piece_items Nothing = []
   piece_items EndLine = end_line ∷ []
   piece_items Inward = inward ∷ []
   piece_items Outward = outward ∷ []

@@ -24,6 +24,8 @@ pub enum Piece {
     Listed(u8, Symbol),
     /// The parts from this number on, as they are.
     Parts(u8),
+    /// Nothing is written. A row without other pieces has this one.
+    Nothing,
     /// The line ends here.
     EndLine,
     /// Lines that begin behind this stand one level further in.

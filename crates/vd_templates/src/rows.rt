@@ -12,8 +12,60 @@ macro_rules! templates {
     ($($($head:expr),* => $($piece:expr),*;)*) => { &[$($($head,)* $($piece,)*)*] };
 }
 
-/// What is written of each form. The heads of a state's forms stand in front of its `AnyOther`.
+/// What is written of each form. The heads of a state's forms stand in front of its `AnyOther`. The rows of trees as they are
+/// stand last, and no other rows behind them.
 pub const TEMPLATES: &[Piece] = templates! {
+    // Operands have brackets, but for primaries, and for left operands of the same operators.
+    Of(OPERAND, Number), Of(OPERAND, Letter), Of(OPERAND, Quoted), Of(OPERAND, Bits), Of(OPERAND, Aggregate),
+        Of(OPERAND, Name), Of(OPERAND, PhysicalLiteral), Of(OPERAND, OperatorName) => Itself;
+    Of(LEFT_OF_AND, And), Of(LEFT_OF_AND, Number), Of(LEFT_OF_AND, Letter), Of(LEFT_OF_AND, Quoted),
+        Of(LEFT_OF_AND, Bits), Of(LEFT_OF_AND, Aggregate), Of(LEFT_OF_AND, Name), Of(LEFT_OF_AND, PhysicalLiteral),
+        Of(LEFT_OF_AND, OperatorName) => Itself;
+    Of(LEFT_OF_OR, Or), Of(LEFT_OF_OR, Number), Of(LEFT_OF_OR, Letter), Of(LEFT_OF_OR, Quoted), Of(LEFT_OF_OR, Bits),
+        Of(LEFT_OF_OR, Aggregate), Of(LEFT_OF_OR, Name), Of(LEFT_OF_OR, PhysicalLiteral),
+        Of(LEFT_OF_OR, OperatorName) => Itself;
+    Of(LEFT_OF_XOR, Xor), Of(LEFT_OF_XOR, Number), Of(LEFT_OF_XOR, Letter), Of(LEFT_OF_XOR, Quoted),
+        Of(LEFT_OF_XOR, Bits), Of(LEFT_OF_XOR, Aggregate), Of(LEFT_OF_XOR, Name), Of(LEFT_OF_XOR, PhysicalLiteral),
+        Of(LEFT_OF_XOR, OperatorName) => Itself;
+    Of(LEFT_OF_XNOR, Xnor), Of(LEFT_OF_XNOR, Number), Of(LEFT_OF_XNOR, Letter), Of(LEFT_OF_XNOR, Quoted),
+        Of(LEFT_OF_XNOR, Bits), Of(LEFT_OF_XNOR, Aggregate), Of(LEFT_OF_XNOR, Name),
+        Of(LEFT_OF_XNOR, PhysicalLiteral), Of(LEFT_OF_XNOR, OperatorName) => Itself;
+    Of(LEFT_OF_SUM, Add), Of(LEFT_OF_SUM, Subtract), Of(LEFT_OF_SUM, Concatenate), Of(LEFT_OF_SUM, Number),
+        Of(LEFT_OF_SUM, Letter), Of(LEFT_OF_SUM, Quoted), Of(LEFT_OF_SUM, Bits), Of(LEFT_OF_SUM, Aggregate),
+        Of(LEFT_OF_SUM, Name), Of(LEFT_OF_SUM, PhysicalLiteral), Of(LEFT_OF_SUM, OperatorName) => Itself;
+    Of(LEFT_OF_PRODUCT, Multiply), Of(LEFT_OF_PRODUCT, Divide), Of(LEFT_OF_PRODUCT, Modulo),
+        Of(LEFT_OF_PRODUCT, Remainder), Of(LEFT_OF_PRODUCT, Number), Of(LEFT_OF_PRODUCT, Letter),
+        Of(LEFT_OF_PRODUCT, Quoted), Of(LEFT_OF_PRODUCT, Bits), Of(LEFT_OF_PRODUCT, Aggregate),
+        Of(LEFT_OF_PRODUCT, Name), Of(LEFT_OF_PRODUCT, PhysicalLiteral), Of(LEFT_OF_PRODUCT, OperatorName) => Itself;
+    AnyOther(OPERAND), AnyOther(LEFT_OF_AND), AnyOther(LEFT_OF_OR), AnyOther(LEFT_OF_XOR), AnyOther(LEFT_OF_XNOR),
+        AnyOther(LEFT_OF_SUM), AnyOther(LEFT_OF_PRODUCT) => Token(OPEN), Itself, Token(CLOSE);
+
+    // What may be left out has a word or a mark of its own.
+    Of(DEFAULT, Absent), Of(REPORTED, Absent), Of(SEVERITY, Absent), Of(WAIT_ON, Absent), Of(WAIT_UNTIL, Absent),
+        Of(WAIT_FOR, Absent), Of(WHEN, Absent), Of(SENSITIVITY, Absent), Of(ARCHITECTURE_NAME, Absent),
+        Of(GENERATED, Absent), Of(END_OF_ENTITY, Absent), Of(END_OF_ARCHITECTURE, Absent), Of(END_OF_PACKAGE, Absent),
+        Of(END_OF_BODY, Absent), Of(END_OF_FUNCTION, Absent) => Nothing;
+    AnyOther(DEFAULT) => Token(BECOMES), Itself;
+    AnyOther(REPORTED) => Token(WORD_REPORT), Itself;
+    AnyOther(SEVERITY) => Token(WORD_SEVERITY), Itself;
+    AnyOther(WAIT_ON) => Token(WORD_ON), Itself;
+    AnyOther(WAIT_UNTIL) => Token(WORD_UNTIL), Itself;
+    AnyOther(WAIT_FOR) => Token(WORD_FOR), Itself;
+    AnyOther(WHEN) => Token(WORD_WHEN), Itself;
+    AnyOther(SENSITIVITY), AnyOther(ARCHITECTURE_NAME) => Token(OPEN), Itself, Token(CLOSE);
+    AnyOther(GENERATED) => Inward, Itself, Outward, Token(WORD_BEGIN), EndLine;
+
+    // The words at the ends of units.
+    Of(END_OF_ENTITY, Closing) => Part(0, END_OF_ENTITY), Part(1, AS_IT_IS);
+    Of(END_OF_ENTITY, ClosingWord) => Token(WORD_ENTITY);
+    Of(END_OF_ARCHITECTURE, Closing) => Part(0, END_OF_ARCHITECTURE), Part(1, AS_IT_IS);
+    Of(END_OF_ARCHITECTURE, ClosingWord) => Token(WORD_ARCHITECTURE);
+    Of(END_OF_PACKAGE, Closing) => Part(0, END_OF_PACKAGE), Part(1, AS_IT_IS);
+    Of(END_OF_PACKAGE, ClosingWord) => Token(WORD_PACKAGE);
+    Of(END_OF_BODY, Closing) => Part(0, END_OF_BODY), Part(1, AS_IT_IS);
+    Of(END_OF_BODY, ClosingWord) => Token(WORD_PACKAGE), Token(WORD_BODY);
+    Of(END_OF_FUNCTION, ClosingWord) => Token(WORD_FUNCTION);
+
     // Each form as it is.
     Of(AS_IT_IS, DesignUnit) => Part(0, AS_IT_IS), Part(1, AS_IT_IS);
     Of(AS_IT_IS, ContextClause) => Parts(0);
@@ -152,7 +204,7 @@ pub const TEMPLATES: &[Piece] = templates! {
     Of(AS_IT_IS, ForGenerate) => Token(WORD_FOR), Part(0, AS_IT_IS), Token(WORD_IN), Part(1, AS_IT_IS),
         Token(WORD_GENERATE), EndLine, Part(2, AS_IT_IS), Token(WORD_END), Token(WORD_GENERATE), Part(3, AS_IT_IS),
         Token(SEMICOLON), EndLine;
-    Of(AS_IT_IS, ElsifGenerates) =>;
+    Of(AS_IT_IS, ElsifGenerates) => Nothing;
     Of(AS_IT_IS, GenerateBody) => Part(0, GENERATED), Inward, Parts(1), Outward;
     Of(AS_IT_IS, Others) => Token(WORD_OTHERS);
     Of(AS_IT_IS, Choices) => Part(0, AS_IT_IS), Listed(1, BAR);
@@ -198,56 +250,5 @@ pub const TEMPLATES: &[Piece] = templates! {
     Of(AS_IT_IS, Aggregate) => Token(OPEN), Part(0, AS_IT_IS), Listed(1, COMMA), Token(CLOSE);
     Of(AS_IT_IS, PhysicalLiteral) => Part(0, AS_IT_IS), Part(1, AS_IT_IS);
     Of(AS_IT_IS, OperatorName) => Part(0, AS_IT_IS), Part(1, AS_IT_IS), Parts(2);
-    Of(AS_IT_IS, Absent) =>;
-
-    // Operands have brackets, but for primaries, and for left operands of the same operators.
-    Of(OPERAND, Number), Of(OPERAND, Letter), Of(OPERAND, Quoted), Of(OPERAND, Bits), Of(OPERAND, Aggregate),
-        Of(OPERAND, Name), Of(OPERAND, PhysicalLiteral), Of(OPERAND, OperatorName) => Itself;
-    Of(LEFT_OF_AND, And), Of(LEFT_OF_AND, Number), Of(LEFT_OF_AND, Letter), Of(LEFT_OF_AND, Quoted),
-        Of(LEFT_OF_AND, Bits), Of(LEFT_OF_AND, Aggregate), Of(LEFT_OF_AND, Name), Of(LEFT_OF_AND, PhysicalLiteral),
-        Of(LEFT_OF_AND, OperatorName) => Itself;
-    Of(LEFT_OF_OR, Or), Of(LEFT_OF_OR, Number), Of(LEFT_OF_OR, Letter), Of(LEFT_OF_OR, Quoted), Of(LEFT_OF_OR, Bits),
-        Of(LEFT_OF_OR, Aggregate), Of(LEFT_OF_OR, Name), Of(LEFT_OF_OR, PhysicalLiteral),
-        Of(LEFT_OF_OR, OperatorName) => Itself;
-    Of(LEFT_OF_XOR, Xor), Of(LEFT_OF_XOR, Number), Of(LEFT_OF_XOR, Letter), Of(LEFT_OF_XOR, Quoted),
-        Of(LEFT_OF_XOR, Bits), Of(LEFT_OF_XOR, Aggregate), Of(LEFT_OF_XOR, Name), Of(LEFT_OF_XOR, PhysicalLiteral),
-        Of(LEFT_OF_XOR, OperatorName) => Itself;
-    Of(LEFT_OF_XNOR, Xnor), Of(LEFT_OF_XNOR, Number), Of(LEFT_OF_XNOR, Letter), Of(LEFT_OF_XNOR, Quoted),
-        Of(LEFT_OF_XNOR, Bits), Of(LEFT_OF_XNOR, Aggregate), Of(LEFT_OF_XNOR, Name),
-        Of(LEFT_OF_XNOR, PhysicalLiteral), Of(LEFT_OF_XNOR, OperatorName) => Itself;
-    Of(LEFT_OF_SUM, Add), Of(LEFT_OF_SUM, Subtract), Of(LEFT_OF_SUM, Concatenate), Of(LEFT_OF_SUM, Number),
-        Of(LEFT_OF_SUM, Letter), Of(LEFT_OF_SUM, Quoted), Of(LEFT_OF_SUM, Bits), Of(LEFT_OF_SUM, Aggregate),
-        Of(LEFT_OF_SUM, Name), Of(LEFT_OF_SUM, PhysicalLiteral), Of(LEFT_OF_SUM, OperatorName) => Itself;
-    Of(LEFT_OF_PRODUCT, Multiply), Of(LEFT_OF_PRODUCT, Divide), Of(LEFT_OF_PRODUCT, Modulo),
-        Of(LEFT_OF_PRODUCT, Remainder), Of(LEFT_OF_PRODUCT, Number), Of(LEFT_OF_PRODUCT, Letter),
-        Of(LEFT_OF_PRODUCT, Quoted), Of(LEFT_OF_PRODUCT, Bits), Of(LEFT_OF_PRODUCT, Aggregate),
-        Of(LEFT_OF_PRODUCT, Name), Of(LEFT_OF_PRODUCT, PhysicalLiteral), Of(LEFT_OF_PRODUCT, OperatorName) => Itself;
-    AnyOther(OPERAND), AnyOther(LEFT_OF_AND), AnyOther(LEFT_OF_OR), AnyOther(LEFT_OF_XOR), AnyOther(LEFT_OF_XNOR),
-        AnyOther(LEFT_OF_SUM), AnyOther(LEFT_OF_PRODUCT) => Token(OPEN), Itself, Token(CLOSE);
-
-    // What may be left out has a word or a mark of its own.
-    Of(DEFAULT, Absent), Of(REPORTED, Absent), Of(SEVERITY, Absent), Of(WAIT_ON, Absent), Of(WAIT_UNTIL, Absent),
-        Of(WAIT_FOR, Absent), Of(WHEN, Absent), Of(SENSITIVITY, Absent), Of(ARCHITECTURE_NAME, Absent),
-        Of(GENERATED, Absent), Of(END_OF_ENTITY, Absent), Of(END_OF_ARCHITECTURE, Absent), Of(END_OF_PACKAGE, Absent),
-        Of(END_OF_BODY, Absent), Of(END_OF_FUNCTION, Absent) =>;
-    AnyOther(DEFAULT) => Token(BECOMES), Itself;
-    AnyOther(REPORTED) => Token(WORD_REPORT), Itself;
-    AnyOther(SEVERITY) => Token(WORD_SEVERITY), Itself;
-    AnyOther(WAIT_ON) => Token(WORD_ON), Itself;
-    AnyOther(WAIT_UNTIL) => Token(WORD_UNTIL), Itself;
-    AnyOther(WAIT_FOR) => Token(WORD_FOR), Itself;
-    AnyOther(WHEN) => Token(WORD_WHEN), Itself;
-    AnyOther(SENSITIVITY), AnyOther(ARCHITECTURE_NAME) => Token(OPEN), Itself, Token(CLOSE);
-    AnyOther(GENERATED) => Inward, Itself, Outward, Token(WORD_BEGIN), EndLine;
-
-    // The words at the ends of units.
-    Of(END_OF_ENTITY, Closing) => Part(0, END_OF_ENTITY), Part(1, AS_IT_IS);
-    Of(END_OF_ENTITY, ClosingWord) => Token(WORD_ENTITY);
-    Of(END_OF_ARCHITECTURE, Closing) => Part(0, END_OF_ARCHITECTURE), Part(1, AS_IT_IS);
-    Of(END_OF_ARCHITECTURE, ClosingWord) => Token(WORD_ARCHITECTURE);
-    Of(END_OF_PACKAGE, Closing) => Part(0, END_OF_PACKAGE), Part(1, AS_IT_IS);
-    Of(END_OF_PACKAGE, ClosingWord) => Token(WORD_PACKAGE);
-    Of(END_OF_BODY, Closing) => Part(0, END_OF_BODY), Part(1, AS_IT_IS);
-    Of(END_OF_BODY, ClosingWord) => Token(WORD_PACKAGE), Token(WORD_BODY);
-    Of(END_OF_FUNCTION, ClosingWord) => Token(WORD_FUNCTION);
+    Of(AS_IT_IS, Absent) => Nothing;
 };

@@ -1,0 +1,2 @@
+//! Derivations of trees.
+#![tactic(auto)]

@@ -1,0 +1,2 @@
+pub mod Standpoints
+pub mod Checked

@@ -1,0 +1,2 @@
+//! Derivations of the trees of revision 1993.
+#![tactic(auto)]
