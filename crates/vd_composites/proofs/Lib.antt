@@ -10,3 +10,4 @@ mod ValueLemmas
 mod SliceLemmas
 mod ReplacedLemmas
 mod JoinedLemmas
+mod VectorLemmas

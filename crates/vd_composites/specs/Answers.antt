@@ -15,6 +15,12 @@ Answers (Ok v) g = g ≡ Ok v
 Answers (Err (Stop kind)) g = g ≡ Err kind
 Answers (Err Memory) g = Unit {0}
 
+-- The list that is defined, or its stop.
+abbrev pub ListAnswers : {A : Type 0} → Result (Vec A Global) ValueEnd → OrStop (List A) → Type 0
+ListAnswers (Ok xs) g = g ≡ Ok xs.items
+ListAnswers (Err (Stop kind)) g = g ≡ Err kind
+ListAnswers (Err Memory) g = Unit {0}
+
 -- some nodes behind these: those of so many items of a list, from a place on
 pub record HasItems (front : List Node) (ns : List Node) (place items : ℕ) (made : List Node) : Type 0 where
   pub body : List Node

@@ -70,13 +70,13 @@ pub(crate) fn fields_at(nodes: &[Node]) -> Option<u32>
 
 /// The nodes of an item's own, and how many items stand in it.
 #[derive(Clone, Copy)]
-struct Head {
-    width: usize,
-    parts: usize,
+pub(crate) struct Head {
+    pub(crate) width: usize,
+    pub(crate) parts: usize,
 }
 
 /// The head of the first item.
-fn head_of(nodes: &[Node]) -> Head
+pub(crate) fn head_of(nodes: &[Node]) -> Head
     requires { (m : ℕ) × (after (suc m) nodes.now ≡ Some 0) }
     ensures width { result.width ≡ width_of nodes.now }
     ensures parts { result.parts ≡ parts_in nodes.now }

@@ -3,12 +3,13 @@
 ghost use Rattle.std.specs.Prelude.{◌≡◌, Some, None, IfOk, Option};
 ghost use Rattle.vd_values.specs.declared.scalar.Scalar.{Scalar};
 ghost use Rattle.vd_composites.specs.declared.scalars.ScalarSubtype.{ScalarSubtype};
-ghost use Rattle.vd_composites.specs.Answers.{Answers, MadeNodes};
-ghost use Rattle.vd_composites.specs.Composites.{One, bounds_of, scalar_of};
+ghost use Rattle.vd_composites.specs.Answers.{Answers, ListAnswers, MadeNodes};
+ghost use Rattle.vd_composites.specs.Composites.{One, bounds_of, same_value, scalar_of};
 ghost use Rattle.vd_composites.specs.Composites.{Value as AnyValue};
 ghost use Rattle.vd_composites.specs.Nodes.{after, read, value_in};
-ghost use Rattle.vd_composites.specs.Parts.{AtField, AtIndex, AtSlice, part, with_part};
+ghost use Rattle.vd_composites.specs.Parts.{AtField, AtIndex, AtSlice, array_of, part, with_part};
 ghost use Rattle.vd_composites.specs.Stops.{OrStop};
+ghost use Rattle.vd_composites.specs.Vectors.{literals, positions_of};
 ghost use Rattle.vd_composites.specs.Subtypes.{Arrays, Scalars, Subtype, fit};
 
 use crate::ends::ValueEnd;
@@ -18,6 +19,7 @@ use crate::parts::{element_nodes, field_nodes, slice_nodes};
 use crate::ranges::Bounds;
 use crate::replacing::{with_element_nodes, with_field_nodes, with_slice_nodes};
 use crate::scalars::ScalarSubtype;
+use crate::vectors::{literal_nodes, positions_nodes, same_nodes};
 use std::alloc::{AllocError, Global};
 use std::marker::Model;
 use vd_values::Scalar;
@@ -127,6 +129,27 @@ impl Value {
         ensures { Answers result (with_part (AtField number) new.now self.now) }
     {
         value_from(with_field_nodes(alloc, &self.nodes, number, &new.nodes))
+    }
+
+    /// The positions of the elements, where the value is an array of integers or of literals.
+    pub fn positions(&self, alloc: Global) -> Result<Vec<i64>, ValueEnd>
+        ensures { ListAnswers result (positions_of self.now) }
+    {
+        positions_nodes(alloc, &self.nodes)
+    }
+
+    /// An array of literals with these bounds, by their positions.
+    pub fn of_literals(alloc: Global, bounds: Bounds, positions: &[u8]) -> Result<Value, ValueEnd>
+        ensures { Answers result (array_of bounds (literals positions.now)) }
+    {
+        value_from(literal_nodes(alloc, bounds, positions))
+    }
+
+    /// Whether two values are equal. The bounds of arrays don't count, their lengths do.
+    pub fn equals(&self, other: &Value) -> bool
+        ensures { result ≡ same_value self.now other.now }
+    {
+        same_nodes(&self.nodes, &other.nodes)
     }
 
     /// The value made one of a scalar subtype.
