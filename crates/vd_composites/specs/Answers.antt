@@ -19,6 +19,11 @@ abbrev pub Answers : Result (Value Scalar) ValueEnd → OrStop (Value Scalar) �
 Answers (Ok v) g = g ≡ Ok v
 Answers (Err end) g = Ends end g
 
+-- What is defined, or its stop.
+abbrev pub Found : {A : Type 0} → Result A ValueEnd → OrStop A → Type 0
+Found (Ok x) g = g ≡ Ok x
+Found (Err end) g = Ends end g
+
 -- The list that is defined, or its stop.
 abbrev pub ListAnswers : {A : Type 0} → Result (Vec A Global) ValueEnd → OrStop (List A) → Type 0
 ListAnswers (Ok xs) g = g ≡ Ok xs.items

@@ -10,10 +10,10 @@ ghost use Rattle.vd_composites.specs.Nodes.{after, read, value_in};
 ghost use Rattle.vd_composites.specs.Parts.{AtField, AtIndex, AtSlice, array_of, part, with_part};
 ghost use Rattle.vd_composites.specs.Stops.{OrStop};
 ghost use Rattle.vd_composites.specs.Vectors.{literals, positions_of};
-ghost use Rattle.vd_composites.specs.Subtypes.{Arrays, Scalars, Subtype, fit};
+ghost use Rattle.vd_composites.specs.Subtypes.{Arrays, Records, Scalars, Subtype, Subtypes, fit, number_of};
 
 use crate::ends::ValueEnd;
-use crate::fitting::{fit_bounded_nodes, fit_free_nodes, fit_scalar_nodes};
+use crate::fitting::{fit_bounded_nodes, fit_free_nodes, fit_record_nodes, fit_scalar_nodes};
 use crate::nodes::{Node, bounds_at, node_of, scalar_at};
 use crate::parts::{element_nodes, field_nodes, slice_nodes};
 use crate::ranges::Bounds;
@@ -171,5 +171,12 @@ impl Value {
         ensures { (index : ScalarSubtype) (of : Subtype) → Answers result (fit (Arrays index (Some bounds) of) self) }
     {
         value_from(fit_bounded_nodes(self.nodes, bounds))
+    }
+
+    /// The value made one of a record subtype of so many fields, which are of any subtypes.
+    pub fn fit_record(self, fields: u32) -> Result<Value, ValueEnd>
+        ensures { (of : Subtypes) → number_of of ≡ fields → Answers result (fit (Records of) self) }
+    {
+        value_from(fit_record_nodes(self.nodes, fields))
     }
 }
