@@ -67,6 +67,14 @@ impl Value {
         Ok(Value { nodes })
     }
 
+    /// The same value again.
+    pub fn duplicate(&self, alloc: Global) -> Result<Value, AllocError>
+        ensures { IfOk result (λ v. v ≡ self.now) }
+    {
+        let nodes = Vec::from_slice(alloc, &self.nodes)?;
+        Ok(Value { nodes })
+    }
+
     /// The nodes.
     pub(crate) fn nodes(&self) -> &[Node]
         ensures whole { after 1 result.now ≡ Some 0 }

@@ -1,0 +1,10 @@
+//! Subtypes with evaluated bounds, values made values of them, and concatenation.
+#![tactic(auto)]
+
+pub mod heads;
+pub mod laws;
+pub mod operands;
+
+pub use heads::{SubtypeHead, fit};
+pub use laws::heads_decide;
+pub use operands::{OperandKind, concatenate};
