@@ -5,4 +5,3 @@ pub mod Matching
 pub mod Orders
 pub mod Laws
 pub mod Moves
-pub mod Found

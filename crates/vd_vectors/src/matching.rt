@@ -4,7 +4,7 @@ ghost use Rattle.std.specs.Prelude.{◌≡◌, Some, None, Result, Ok, Err};
 ghost use Rattle.vd_composites.specs.Answers.{Answers, Ends};
 ghost use Rattle.vd_vectors.specs.Logics.{logic_value};
 ghost use Rattle.vd_vectors.specs.Matching.{condition as condition_value, match_arrays as arrays_match, match_by_shapes, matches as matches_value, matching};
-ghost use Rattle.vd_vectors.specs.Found.{Found};
+ghost use Rattle.vd_composites.specs.Answers.{Found};
 
 use crate::lists::match_lists;
 use crate::logics::{LogicType, as_logic, as_logics, of_logic, of_truth};

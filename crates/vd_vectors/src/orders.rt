@@ -3,7 +3,7 @@
 ghost use Rattle.std.specs.Prelude.{◌≡◌, Some, None};
 ghost use Rattle.vd_composites.specs.Answers.{Answers};
 ghost use Rattle.vd_composites.specs.Scalars.{position_of};
-ghost use Rattle.vd_vectors.specs.Found.{Found};
+ghost use Rattle.vd_composites.specs.Answers.{Found};
 ghost use Rattle.vd_vectors.specs.Orders.{array_order, holds, matching_ordered as matching_ordered_value, order, order_by_shapes, ordered as ordered_value};
 
 use crate::lists::{order_lists, order_positions};
