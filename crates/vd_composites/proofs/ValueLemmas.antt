@@ -103,6 +103,12 @@ elements_wanted ns b place items a h =
     let e : place + (items + k) ≡ length_of b = omega arith in
     (k, ap (after (place + (items + k))) (tail_of 2 ns) ∙ ap (λ n. after n (drop 2 ns)) e ∙ a.whole)
 
+pub all_elements : (ns : List Node) (b : Bounds) (total : ℕ) → IsArray ns b → total ≡ length_of b → after total (take (length ns - 2) (drop 2 ns)) ≡ Some 0
+all_elements ns b total a same = ap (after total) (tail_of 2 ns) ∙ ap (λ n. after n (drop 2 ns)) same ∙ a.whole
+
+pub all_fields : (ns : List Node) (n : ℕ) → IsRecord ns n → after n (take (length ns - 1) (drop 1 ns)) ≡ Some 0
+all_fields ns n a = ap (after n) (tail_of 1 ns) ∙ a.whole
+
 pub element_outside : (ns : List Node) (b : Bounds) (i : ℤ) → IsArray ns b → is_within b i ≡ false → part (AtIndex i) (value_in (read ns)) ≡ Err Index
 element_outside ns b i a outside = ap (part (AtIndex i)) a.is ∙ if_false (is_within b i) (item_at (place_of b i) (read (drop 2 ns))) (Err Index) outside
 
