@@ -1,5 +1,5 @@
 mod RangeLemmas
-mod ItemLemmas
+pub mod ItemLemmas
 mod StopLemmas
 mod FitLaws
 mod PartLaws

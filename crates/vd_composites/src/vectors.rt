@@ -58,11 +58,7 @@ pub(crate) fn positions_nodes(alloc: Global, nodes: &[Node]) -> Result<Vec<i64>,
 }
 
 /// The nodes of an array of literals.
-fn literals_behind(
-    alloc: Global,
-    bounds: Bounds,
-    positions: &[u8],
-) -> Result<Vec<Node>, AllocError>
+fn literals_behind(alloc: Global, bounds: Bounds, positions: &[u8]) -> Result<Vec<Node>, AllocError>
     ensures { IfOk result (λ made. made.items ≡ Array bounds.left bounds.down ∷ Right bounds.right ∷ map (λ p. Literal p) positions.now) }
 {
     let head = [

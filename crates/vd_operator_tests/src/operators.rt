@@ -99,12 +99,7 @@ fn text(alloc: Global, kind: &str, image: bool) -> Result<Op, AllocError> {
 /// The operator `&` of an array type.
 fn concatenation(kind: &str, left: OperandKind, right: OperandKind) -> Op {
     let element = SubtypeHead::Scalar(whole(scalar_type(kind)));
-    Op::Binary(BinaryOp::Concatenation(
-        index_of(kind),
-        element,
-        left,
-        right,
-    ))
+    Op::Binary(BinaryOp::Concatenation(index_of(kind), element, left, right))
 }
 
 /// An operator whose name has two parts.

@@ -29,9 +29,12 @@ fn scalar(text: &str) -> anyhow::Result<Scalar> {
 /// An array: `3:4:u:l1,l0`.
 fn array(alloc: Global, text: &str) -> anyhow::Result<Value> {
     let mut parts = text.split(':');
-    let (Some(left), Some(right), Some(direction), Some(elements)) =
-        (parts.next(), parts.next(), parts.next(), parts.next())
-    else {
+    let (Some(left), Some(right), Some(direction), Some(elements)) = (
+        parts.next(),
+        parts.next(),
+        parts.next(),
+        parts.next(),
+    ) else {
         bail!("there is no array {text}");
     };
     let bounds = Bounds {

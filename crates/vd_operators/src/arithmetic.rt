@@ -170,11 +170,7 @@ fn time_two(alloc: Global, adds: bool, left: &Value, right: &Value) -> Result<Va
 {
     match (as_time(left), as_time(right)) {
         (Ok(a), Ok(b)) => {
-            let found = if adds {
-                time_add(a, b)
-            } else {
-                time_sub(a, b)
-            };
+            let found = if adds { time_add(a, b) } else { time_sub(a, b) };
             time_answer(alloc, found)
         }
         (Err(kind), _) | (_, Err(kind)) => Err(ValueEnd::Stop(kind)),

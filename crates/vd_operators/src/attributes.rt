@@ -88,7 +88,10 @@ pub fn array_bound(
 {
     match value.bounds() {
         None => Err(ValueEnd::Stop(StopKind::Range)),
-        Some(bounds) => scalar_answer(alloc, scalar_at(index, i128::from(side_bound(side, bounds)))),
+        Some(bounds) => scalar_answer(
+            alloc,
+            scalar_at(index, i128::from(side_bound(side, bounds))),
+        ),
     }
 }
 
@@ -133,11 +136,7 @@ pub fn array_range(backwards: bool, index: ScalarType, value: &Value) -> Result<
 }
 
 /// 'left, 'right, 'high or 'low of a scalar subtype.
-pub fn subtype_bound(
-    alloc: Global,
-    side: Side,
-    subtype: ScalarSubtype,
-) -> Result<Value, ValueEnd>
+pub fn subtype_bound(alloc: Global, side: Side, subtype: ScalarSubtype) -> Result<Value, ValueEnd>
     ensures { Answers result (subtype_value side subtype) }
 {
     let bound = side_bound(side, subtype.range);

@@ -152,11 +152,7 @@ fn logics_text(alloc: Global, value: &Value) -> Result<Value, ValueEnd>
 }
 
 /// What 'image and `to_string` write of a value.
-pub fn write_text(
-    alloc: Global,
-    operator: &TextOperator,
-    value: &Value,
-) -> Result<Value, ValueEnd>
+pub fn write_text(alloc: Global, operator: &TextOperator, value: &Value) -> Result<Value, ValueEnd>
     ensures { Answers result (written operator.now value.now) }
 {
     match operator {

@@ -140,9 +140,9 @@ rights_all (suc n) f xs h =
     elim (cases_lt (length xs) (suc n)) [
       | inl less ↦ ap (one_right f) (rights_all n f xs (omega arith)) ∙ right_same (length xs) f
       | inr more ↦ (
-        let e : suc n ≡ length xs = omega arith in
-        let z : length xs - suc n ≡ 0 = omega arith in
-        rights_some (suc n) f xs more ∙ ap (λ m. replicate (suc n) f ++ take m xs) z ∙ append_none (replicate (suc n) f) ∙ ap (λ m. replicate m f) e)
+          let e : suc n ≡ length xs = omega arith in
+          let z : length xs - suc n ≡ 0 = omega arith in
+          rights_some (suc n) f xs more ∙ ap (λ m. replicate (suc n) f ++ take m xs) z ∙ append_none (replicate (suc n) f) ∙ ap (λ m. replicate m f) e)
     ]
 
 rights_are : (n : ℕ) (f : Logic) (xs : List Logic) → rights n f xs ≡ filled_right f n xs
@@ -150,9 +150,9 @@ rights_are n f xs =
     elim (cases_lt n (length xs)) [
       | inl less ↦ (let e : n ≡ min n (length xs) = omega arith in rights_some n f xs (omega arith) ∙ ap (λ m. replicate m f ++ take (length xs - m) xs) e)
       | inr more ↦ (
-        let e : length xs ≡ min n (length xs) = omega arith in
-        let z : 0 ≡ length xs - length xs = omega arith in
-        rights_all n f xs more ∙ sym (append_none (replicate (length xs) f)) ∙ ap (λ m. replicate (length xs) f ++ take m xs) z ∙ ap (λ m. replicate m f ++ take (length xs - m) xs) e)
+          let e : length xs ≡ min n (length xs) = omega arith in
+          let z : 0 ≡ length xs - length xs = omega arith in
+          rights_all n f xs more ∙ sym (append_none (replicate (length xs) f)) ∙ ap (λ m. replicate (length xs) f ++ take m xs) z ∙ ap (λ m. replicate m f ++ take (length xs - m) xs) e)
     ]
 
 left_kept : (f : Logic) (ys : List Logic) → leftmost Zero ys ≡ f → leftmost Zero (one_right f ys) ≡ f
@@ -238,18 +238,18 @@ turned (suc n) xs some =
     elim (cases_lt (suc k) (length xs)) [
       | inl less ↦ record { rounds = before.rounds; place = suc k; below = less; sum = omega arith; left = left; right = right }
       | inr more ↦ (
-        let e : suc k ≡ length xs = omega arith in
-        let z : i ≡ 0 = omega arith in
-        let l : length xs ≡ length xs - 0 = omega arith in
-        let r : suc n ≡ suc before.rounds * length xs + 0 = grind arith in
-        record {
-          rounds = suc before.rounds;
-          place = 0;
-          below = some;
-          sum = r;
-          left = left ∙ ap (λ m. rotated m xs) e ∙ rotated_round xs ∙ sym (append_none xs);
-          right = right ∙ ap (λ m. rotated m xs) z ∙ append_none xs ∙ sym (rotated_round xs) ∙ ap (λ m. rotated m xs) l;
-        })
+          let e : suc k ≡ length xs = omega arith in
+          let z : i ≡ 0 = omega arith in
+          let l : length xs ≡ length xs - 0 = omega arith in
+          let r : suc n ≡ suc before.rounds * length xs + 0 = grind arith in
+          record {
+            rounds = suc before.rounds;
+            place = 0;
+            below = some;
+            sum = r;
+            left = left ∙ ap (λ m. rotated m xs) e ∙ rotated_round xs ∙ sym (append_none xs);
+            right = right ∙ ap (λ m. rotated m xs) z ∙ append_none xs ∙ sym (rotated_round xs) ∙ ap (λ m. rotated m xs) l;
+          })
     ]
 
 place_is : (n : ℕ) (xs : List Logic) (t : Turned n xs) → n % length xs ≡ t.place

@@ -127,12 +127,7 @@ pub fn logical_operation(
 }
 
 /// The operator `not` on an array.
-fn not_array(
-    alloc: Global,
-    of: LogicType,
-    bounds: Bounds,
-    value: &Value,
-) -> Result<Value, ValueEnd>
+fn not_array(alloc: Global, of: LogicType, bounds: Bounds, value: &Value) -> Result<Value, ValueEnd>
     ensures { Answers result (negated_by of (Some bounds) value.now) }
 {
     let values = as_logics(alloc, of, value)?;

@@ -141,7 +141,10 @@ pub fn of_truth(alloc: Global, holds: bool) -> Result<Value, ValueEnd>
 fn positions_of(alloc: Global, of: LogicType, values: &[Logic]) -> Result<Vec<u8>, AllocError>
     ensures { IfOk result (λ ps. ps.items ≡ map (position_in of) values.now) }
 {
-    values.iter().map(|value| position_of(of, *value)).collect(alloc)
+    values
+        .iter()
+        .map(|value| position_of(of, *value))
+        .collect(alloc)
 }
 
 /// An array with these bounds.

@@ -23,7 +23,7 @@ returns c =
     let own : c.in-Ok.right ≡ c.right_of.result = c.in-Ok.ensures.1 ∙ wide in
     let fits : SFits w64 c.in-Ok.right = subst (λ z. SFits w64 z) (sym c.in-Ok.ensures.1) c.in-Ok.ensures.0 in
     let right : to_z w64 (of_z w64 c.in-Ok.right) ≡ one_before c.args.range.down (steps_on c.args.range.down c.args.range.left c.args.count) =
-        to_z-of_z w64 c.in-Ok.right fits ∙ own ∙ c.right_of.ensures ∙ ap (λ l. one_before c.args.range.down (steps_on c.args.range.down l c.args.count)) left
+    to_z-of_z w64 c.in-Ok.right fits ∙ own ∙ c.right_of.ensures ∙ ap (λ l. one_before c.args.range.down (steps_on c.args.range.down l c.args.count)) left
     in
     if_true (lies_within c.args.range (from_left c.args.range.left c.args.range.down c.args.count)) (Ok (from_left c.args.range.left c.args.range.down c.args.count)) (Err Index) (enough c.args.range c.args.count fit)
     ∙ sym (ok_bounds c.args.range.down _ _ _ _ left right)

@@ -35,8 +35,8 @@ pub returns-then-most-total : goal.returns-then-most-total
 returns-then-most-total c = record {
   within = (let fit : c.args.items + c.requires.there.0 ≤ length c.args.nodes.now + 0 = wanted_fit (c.args.items + c.requires.there.0) 0 c.args.nodes.now c.requires.there.1 in omega arith);
   front = (
-    let same : c.args.total ≡ c.args.items + c.requires.there.0 = same_wanted c.args.total (c.args.items + c.requires.there.0) c.args.nodes.now c.requires.all c.requires.there.1 in
-    single_front c.args.total c.args.items c.args.nodes.now c.requires.all c.if-most-total.true (omega arith));
+      let same : c.args.total ≡ c.args.items + c.requires.there.0 = same_wanted c.args.total (c.args.items + c.requires.there.0) c.args.nodes.now c.requires.all c.requires.there.1 in
+      single_front c.args.total c.args.items c.args.nodes.now c.requires.all c.if-most-total.true (omega arith));
 }
 
 pub overflow_add-place : goal.overflow_add-place

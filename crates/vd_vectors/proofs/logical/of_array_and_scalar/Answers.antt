@@ -10,6 +10,6 @@ returns c =
     let one : logics_in c.args.of c.args.left.now ≡ Ok c.in_ok-l.l.items = c.in_ok-l.ensures in
     let two : logic_in c.args.of c.args.right.now ≡ Ok c.in-Ok.r = sym c.as_logic.ensures ∙ c.in-Ok.is in
     let made : c.deref-in-Ok-of_each_and.result.now ≡ map (λ x. logical_of c.args.operator x c.in-Ok.r) c.in_ok-l.l.items =
-        c.deref-in-Ok-of_each_and.ensures.value ∙ c.in-Ok-of_each_and.ensures ∙ ap (map (λ x. logical_of c.args.operator x c.in-Ok.r)) c.deref.ensures.value
+    c.deref-in-Ok-of_each_and.ensures.value ∙ c.in-Ok-of_each_and.ensures ∙ ap (map (λ x. logical_of c.args.operator x c.in-Ok.r)) c.deref.ensures.value
     in
     rw (one, two) (subst (λ xs. Answers c.result_of.result (result_array c.args.of c.args.bounds xs)) made c.result_of.ensures)
