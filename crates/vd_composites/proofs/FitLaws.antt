@@ -10,7 +10,7 @@ use Rattle.vd_composites.specs.Ranges.{length_of, lies_within, from_left, is_wit
 use Rattle.vd_composites.specs.Scalars.{belongs}
 use Rattle.vd_composites.specs.Composites.{Value, One, Array, Fields, Items, count, repeated, leaves}
 use Rattle.vd_composites.specs.Parts.{array_of}
-use Rattle.vd_composites.specs.Subtypes.{Subtype, Scalars, Arrays, Records, Subtypes, number_of, fit, HasSubtype, default_of}
+use Rattle.vd_composites.specs.Subtypes.{Subtype, Scalars, Arrays, Records, Subtypes, no_more, and_more, number_of, fit, HasSubtype, default_of}
 use Rattle.vd_composites.specs.Laws.{FitsOnce, DefaultsFit, ConversionsKeepValues}
 use Rattle.vd_composites.specs.Composites.{items_in}
 use Rattle.vd_composites.proofs.RangeLemmas.{length_from_left}
@@ -120,3 +120,13 @@ conversions_keep_values index None from to (One x) h = absurd h
 conversions_keep_values index (Some b) from to (One x) h = absurd h
 conversions_keep_values index None from to (Fields vs) h = absurd h
 conversions_keep_values index (Some b) from to (Fields vs) h = absurd h
+
+-- some subtypes, so many
+pub some_fields : ℕ → Subtypes
+some_fields zero = no_more
+some_fields (suc n) = and_more (Records no_more) (some_fields n)
+
+pub so_many_fields : (n : ℕ) → number_of (some_fields n) ≡ n
+unfolding some_fields
+so_many_fields zero = refl
+so_many_fields (suc n) = ap suc (so_many_fields n)

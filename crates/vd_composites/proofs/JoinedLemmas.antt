@@ -5,7 +5,11 @@ use Rattle.std.proofs.lemmas.Int.{ints, to_z-of_z}
 use Rattle.std.proofs.lemmas.Bool.Decides.{nat_tests}
 use Rattle.std.specs.Prelude.{int_le, ◌&&◌, ◌==◌, Ok, Err, if◌then◌else◌}
 use Rattle.vd_values.specs.declared.scalar.Scalar.{Scalar}
+use Rattle.vd_values.specs.declared.scalar.StopKind.{StopKind}
 use Rattle.vd_values.specs.declared.scalar.StopKind.TheVariants.{Range, Index}
+use Rattle.vd_composites.specs.declared.ends.ValueEnd.{ValueEnd}
+use Rattle.vd_composites.specs.declared.ends.ValueEnd.TheVariants.{Stop, Memory}
+use Rattle.vd_composites.specs.Answers.{Ends}
 use Rattle.vd_composites.specs.declared.nodes.Node.{Node}
 use Rattle.vd_composites.specs.declared.nodes.Node.TheVariants.{Array as ArrayNode, Right, Fields as FieldsNode}
 use Rattle.vd_composites.specs.Stops.{OrStop}
@@ -21,7 +25,7 @@ use Rattle.vd_composites.specs.declared.scalars.ScalarType.TheVariants.{Integers
 use Rattle.vd_composites.specs.Ranges.{length_of, is_within, lies_within, index_at, steps_on, one_before, from_left}
 use Rattle.vd_composites.specs.Nodes.{bounds_from, after, read, value_in}
 use Rattle.vd_composites.proofs.RangeLemmas.{both_true, index_within}
-use Rattle.vd_composites.proofs.StopLemmas.{not_true, if_true, if_false, same_test, no_test}
+use Rattle.vd_composites.proofs.StopLemmas.{ok_same, not_true, if_true, if_false, same_test, no_test}
 use Rattle.vd_composites.proofs.ConcatenationLaws.{some_lie, fewer_lie, all_lie, one_back, no_step}
 
 abbrev indexed_by : Bounds → ScalarSubtype
@@ -34,35 +38,8 @@ too_many b (suc n) some h = not_true (lies_within b (from_left b.left b.down (su
 pub enough : (b : Bounds) (n : ℕ) → (0 < n → n ≤ length_of b) → lies_within b (from_left b.left b.down n) ≡ true
 enough b n h = all_lie (indexed_by b) n h
 
-between : (low x high : ℤ) → SFits w64 low → SFits w64 high → int_le low x ≡ true → int_le x high ≡ true → SFits w64 x
-between (pos a) (pos n) (pos m) f g h k = record { sfits = (let e : n ≤ m = grind (arith, nat_tests) in let l = g.sfits in omega arith) }
-between (negsuc a) (pos n) (pos m) f g h k = record { sfits = (let e : n ≤ m = grind (arith, nat_tests) in let l = g.sfits in omega arith) }
-between low (pos n) (negsuc m) f g h k = absurd cc
-between (pos a) (negsuc n) high f g h k = absurd cc
-between (negsuc a) (negsuc n) high f g h k = record { sfits = (let e : n ≤ a = grind (arith, nat_tests) in let l = f.sfits in omega arith) }
-
-within_fits : (l r : ℤ) (down : Bool) (x : ℤ) → SFits w64 l → SFits w64 r → is_within (record { left = l; right = r; down = down }) x ≡ true → SFits w64 x
-within_fits l r true x f g h = let two = both_true (int_le r x) (int_le x l) h in between r x l g f two.0 two.1
-within_fits l r false x f g h = let two = both_true (int_le l x) (int_le x r) h in between l x r f g two.0 two.1
-
-pub right_fits : (b : Bounds) (n : ℕ) → SFits w64 b.left → SFits w64 b.right → SFits w64 (one_before b.down b.left) → (0 < n → n ≤ length_of b) → SFits w64 (one_before b.down (steps_on b.down b.left n))
-right_fits b zero f g one h = subst (λ z. SFits w64 (one_before b.down z)) (sym (no_step b.down b.left)) one
-right_fits b (suc n) f g one h =
-    let below : suc n ≤ length_of b = h (omega arith) in
-    subst (λ z. SFits w64 z) (sym (one_back b.down b.left n)) (within_fits b.left b.right b.down (index_at b n) f g (index_within b n (omega arith)))
-
-wider : (z : ℤ) → SFits w64 z → SFits w128 z
-wider z f = record { sfits = (let l = f.sfits in omega arith) }
-
--- a number that was widened and made narrow again
-pub narrowed : (x y : ℤ) → x ≡ y → SFits w64 y → to_z w64 (of_z w64 (to_z w128 (of_z w128 x))) ≡ y
-narrowed x y e f =
-    ap (λ z. to_z w64 (of_z w64 (to_z w128 (of_z w128 z)))) e
-    ∙ ap (λ z. to_z w64 (of_z w64 z)) (to_z-of_z w128 y (wider y f))
-    ∙ to_z-of_z w64 y f
-
-pub same_bounds : (down : Bool) (l m r s : ℤ) → l ≡ m → r ≡ s → Some (bounds_from l down r) ≡ Some (bounds_from m down s)
-same_bounds down l m r s e f = λ i. Some (bounds_from (e i) down (f i))
+pub ok_bounds : (down : Bool) (l m r s : ℤ) → l ≡ m → r ≡ s → (let g : OrStop Bounds = Ok (bounds_from l down r) in g ≡ Ok (bounds_from m down s))
+ok_bounds down l m r s e f = λ i. Ok (bounds_from (e i) down (f i))
 
 -- ---- items behind others
 
@@ -97,24 +74,32 @@ pub array_is_not : (b : Bounds) (n : ℕ) (ns : List Node) → after n ns ≡ So
 array_is_not b n ns h differ =
     if_false (count (read ns) == length_of b) (Ok (Array b (read ns))) (Err Range) (no_test (count (read ns)) (length_of b) (λ e. differ (sym e ∙ counted n ns h)))
 
-some_if : (t : Bool) (b c : Bounds) → (if t then Some b else None) ≡ Some c → (t ≡ true) × (b ≡ c)
-some_if true b c h = (refl, bounds_same b c h)
-some_if false b c h = absurd cc
+stop_same : (k : StopKind) → (let g : OrStop Bounds = Err Index in g ≡ Err k) → (let g : OrStop (Value Scalar) = Err Index in g ≡ Err k)
+stop_same k e = let same : Index ≡ k = cc in ap (λ j. Err j) same
 
-none_if : (t : Bool) (b : Bounds) → (if t then Some b else None) ≡ None → t ≡ false
-none_if true b h = absurd cc
-none_if false b h = refl
+stopped : (t : Bool) (b : Bounds) (g : OrStop (Value Scalar)) (k : StopKind) → (let f : OrStop Bounds = (if t then Ok b else Err Index) in f ≡ Err k) → (if t then g else Err Index) ≡ Err k
+stopped true b g k e = absurd cc
+stopped false b g k e = stop_same k e
 
-pub on_none : (index : ScalarSubtype) (n : ℕ) (ns : List Node) → after n ns ≡ Some 0 → (if lies_within index.range (from_left index.range.left index.range.down n) then Some (from_left index.range.left index.range.down n) else None) ≡ None → array_on index (read ns) ≡ Err Index
-on_none index n ns h e =
-    ap (λ m. indexed index (from_left index.range.left index.range.down m) (read ns)) (counted n ns h)
-    ∙ if_false (lies_within index.range (from_left index.range.left index.range.down n)) (array_of (from_left index.range.left index.range.down n) (read ns)) (Err Index)
-    (none_if (lies_within index.range (from_left index.range.left index.range.down n)) (from_left index.range.left index.range.down n) e)
-
-pub on_some : (index : ScalarSubtype) (n : ℕ) (ns : List Node) (b : Bounds) → after n ns ≡ Some 0 → (if lies_within index.range (from_left index.range.left index.range.down n) then Some (from_left index.range.left index.range.down n) else None) ≡ Some b → array_of b (read ns) ≡ array_on index (read ns)
-on_some index n ns b h e =
+-- what stops the bounds stops the array
+pub on_end : (index : ScalarSubtype) (n : ℕ) (ns : List Node) (end : ValueEnd) → after n ns ≡ Some 0 →
+    Ends end (if lies_within index.range (from_left index.range.left index.range.down n) then Ok (from_left index.range.left index.range.down n) else Err Index) → Ends end (array_on index (read ns))
+on_end index n ns Memory h e = tt
+on_end index n ns (Stop k) h e =
     let own = from_left index.range.left index.range.down n in
-    let two = some_if (lies_within index.range own) own b e in
+    ap (λ m. indexed index (from_left index.range.left index.range.down m) (read ns)) (counted n ns h)
+    ∙ stopped (lies_within index.range own) own (array_of own (read ns)) k e
+
+found_if : (t : Bool) (b c : Bounds) → (let g : OrStop Bounds = (if t then Ok b else Err Index) in g ≡ Ok c) → (t ≡ true) × (b ≡ c)
+found_if true b c h = (refl, ok_same b c h)
+found_if false b c h = absurd cc
+
+pub on_found : (index : ScalarSubtype) (n : ℕ) (ns : List Node) (b : Bounds) → after n ns ≡ Some 0 →
+    (let g : OrStop Bounds = (if lies_within index.range (from_left index.range.left index.range.down n) then Ok (from_left index.range.left index.range.down n) else Err Index) in g ≡ Ok b) →
+    array_of b (read ns) ≡ array_on index (read ns)
+on_found index n ns b h e =
+    let own = from_left index.range.left index.range.down n in
+    let two = found_if (lies_within index.range own) own b e in
     sym (ap (λ m. indexed index (from_left index.range.left index.range.down m) (read ns)) (counted n ns h)
     ∙ if_true (lies_within index.range own) (array_of own (read ns)) (Err Index) two.0
     ∙ ap (λ c. array_of c (read ns)) two.1)

@@ -1,5 +1,5 @@
 mod RangeLemmas
-mod ItemLemmas
+pub mod ItemLemmas
 mod StopLemmas
 mod FitLaws
 mod PartLaws
@@ -10,3 +10,4 @@ mod ValueLemmas
 mod SliceLemmas
 mod ReplacedLemmas
 mod JoinedLemmas
+mod VectorLemmas

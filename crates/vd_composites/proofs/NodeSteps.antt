@@ -1,11 +1,13 @@
 -- The steps of the loop that finds the end of the first items.
-use Rattle.std.proofs.Common.{◌≡◌, ◌<◌, ◌≤◌, ℕ, zero, suc, ◌+◌, ◌-◌, List, length, take, drop, ◌++◌, Some, refl, sym, ap, ◌∙◌, subst, arith}
+use Rattle.std.proofs.Common.{◌≡◌, ◌<◌, ◌≤◌, ℕ, zero, suc, ◌+◌, ◌-◌, List, [], ◌∷◌, length, take, drop, ◌++◌, Some, refl, sym, ap, ◌∙◌, subst, arith}
 use Rattle.std.proofs.lemmas.List.{length-drop, take-append-drop}
 use Rattle.std.proofs.Math.Seq.{take-length}
 use Rattle.vd_composites.specs.declared.nodes.Node.{Node}
 use Rattle.vd_values.specs.declared.scalar.Scalar.{Scalar}
 use Rattle.vd_composites.specs.Composites.{Items, count, joined, without, first_of, written}
-use Rattle.vd_composites.specs.Nodes.{after, read, width_of, parts_in}
+use Rattle.vd_composites.specs.declared.nodes.Node.TheVariants.{Integer, Literal, Time, Array as ArrayNode, Right, Fields as FieldsNode}
+use Rattle.vd_composites.specs.Ranges.{length_of}
+use Rattle.vd_composites.specs.Nodes.{bounds_from, after, read, width_of, parts_in}
 use Rattle.vd_composites.proofs.ItemLemmas.{first_joined, without_joined, without_more}
 use Rattle.vd_composites.proofs.NodeLemmas.{OneMore, front_more, front_rest, wanted_fit, read_both, counted, after_both, after_more}
 
@@ -99,3 +101,32 @@ replaced_whole place items k start end ns new h g f whole =
     after_both (place + (items + k)) (items + k) (take start ns) (new ++ rest) (after_more place 0 (items + k) (take start ns) h ∙ ap Some e)
     ∙ after_both (items + k) k new rest (after_more items 0 k new f ∙ ap Some o)
     ∙ last
+
+-- ---- items that are a node each
+
+pub single_front : (m i : ℕ) (ns : List Node) → after m ns ≡ Some 0 → length ns ≡ m → i ≤ m → after i (take i ns) ≡ Some 0
+single_front m zero ns h e l = refl
+single_front m (suc i) [] h e l = absurd (omega arith)
+single_front zero (suc i) (x ∷ ns) h e l = absurd (omega arith)
+single_front (suc m) (suc i) (Integer x ∷ ns) h e l = single_front m i ns h (omega arith) (omega arith)
+single_front (suc m) (suc i) (Literal x ∷ ns) h e l = single_front m i ns h (omega arith) (omega arith)
+single_front (suc m) (suc i) (Time x ∷ ns) h e l = single_front m i ns h (omega arith) (omega arith)
+single_front (suc m) (suc i) (ArrayNode left down ∷ Right right ∷ ns) h e l =
+    absurd (let fit : length_of (bounds_from left down right) + m ≤ length ns + 0 = wanted_fit (length_of (bounds_from left down right) + m) 0 ns h in omega arith)
+single_front (suc m) (suc i) (FieldsNode n ∷ ns) h e l =
+    let fit : n + m ≤ length ns + 0 = wanted_fit (n + m) 0 ns h in
+    let z : n + m ≡ m = omega arith in
+    let y : n + i ≡ i = omega arith in
+    ap (λ k. after k (take i ns)) y ∙ single_front m i ns (ap (λ k. after k ns) (sym z) ∙ h) (omega arith) (omega arith)
+single_front (suc m) (suc i) (x ∷ ns) h e l = absurd cc
+
+-- the items in front and all items are counted alike
+pub same_wanted : (m n : ℕ) (ns : List Node) → after m ns ≡ Some 0 → after n ns ≡ Some 0 → m ≡ n
+same_wanted m n ns h g = sym (counted m ns h) ∙ counted n ns g
+
+pub rest_all : (place items k total start : ℕ) (ns : List Node) → after place (take start ns) ≡ Some 0 → after (place + (items + k)) ns ≡ Some 0 → after total ns ≡ Some 0 →
+    after (total - place) (take (length ns - start) (drop start ns)) ≡ Some 0
+rest_all place items k total start ns h whole all =
+    let same : total ≡ place + (items + k) = same_wanted total (place + (items + k)) ns all whole in
+    let e : total - place ≡ 0 + (items + k) = omega arith in
+    ap (after (total - place)) (tail_of start ns) ∙ ap (λ i. after i (drop start ns)) e ∙ front_rest place (items + k) 0 start ns h whole

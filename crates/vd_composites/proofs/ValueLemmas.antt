@@ -16,7 +16,7 @@ use Rattle.vd_composites.specs.Parts.{misshapen, first_item, item_at, element, a
 use Rattle.vd_composites.specs.Nodes.{bounds_from, read, after, value_in, bounds_in, fields_in, scalar_in}
 use Rattle.vd_composites.specs.Composites.{scalar_of, bounds_of, items_in}
 use Rattle.vd_composites.specs.Scalars.{belongs}
-use Rattle.vd_composites.specs.Subtypes.{Subtype, Scalars, Arrays, fit}
+use Rattle.vd_composites.specs.Subtypes.{Subtype, Scalars, Arrays, Records, Subtypes, number_of, fit}
 use Rattle.vd_composites.specs.declared.scalars.ScalarSubtype.{ScalarSubtype}
 use Rattle.vd_values.specs.declared.scalar.Scalar.TheVariants.{Integer as OfInteger, Literal as OfLiteral, Time as OfTime}
 use Rattle.vd_composites.specs.Answers.{HasItems, MadeNodes}
@@ -103,6 +103,12 @@ elements_wanted ns b place items a h =
     let e : place + (items + k) ≡ length_of b = omega arith in
     (k, ap (after (place + (items + k))) (tail_of 2 ns) ∙ ap (λ n. after n (drop 2 ns)) e ∙ a.whole)
 
+pub all_elements : (ns : List Node) (b : Bounds) (total : ℕ) → IsArray ns b → total ≡ length_of b → after total (take (length ns - 2) (drop 2 ns)) ≡ Some 0
+all_elements ns b total a same = ap (after total) (tail_of 2 ns) ∙ ap (λ n. after n (drop 2 ns)) same ∙ a.whole
+
+pub all_fields : (ns : List Node) (n : ℕ) → IsRecord ns n → after n (take (length ns - 1) (drop 1 ns)) ≡ Some 0
+all_fields ns n a = ap (after n) (tail_of 1 ns) ∙ a.whole
+
 pub element_outside : (ns : List Node) (b : Bounds) (i : ℤ) → IsArray ns b → is_within b i ≡ false → part (AtIndex i) (value_in (read ns)) ≡ Err Index
 element_outside ns b i a outside = ap (part (AtIndex i)) a.is ∙ if_false (is_within b i) (item_at (place_of b i) (read (drop 2 ns))) (Err Index) outside
 
@@ -173,6 +179,28 @@ no_array_fits (Literal x ∷ ns) index bounds of h e = refl
 no_array_fits (Time x ∷ ns) index bounds of h e = refl
 no_array_fits (FieldsNode n ∷ ns) index bounds of h e = refl
 no_array_fits (x ∷ ns) index bounds of h e = refl
+
+-- records made one of a subtype
+pub no_record_fits : (ns : List Node) (of : Subtypes) → after 1 ns ≡ Some 0 → fields_in ns ≡ None → fit (Records of) (value_in (read ns)) ≡ Err Range
+no_record_fits (FieldsNode k ∷ ns) of h e = absurd cc
+no_record_fits [] of h e = refl
+no_record_fits (Integer x ∷ ns) of h e = refl
+no_record_fits (Literal x ∷ ns) of h e = refl
+no_record_fits (Time x ∷ ns) of h e = refl
+no_record_fits (ArrayNode left down ∷ Right right ∷ ns) of h e = refl
+no_record_fits (x ∷ ns) of h e = refl
+
+pub record_fits : (ns : List Node) (n fields : ℕ) (of : Subtypes) → IsRecord ns n → n ≡ fields → number_of of ≡ fields → fit (Records of) (value_in (read ns)) ≡ Ok (value_in (read ns))
+record_fits ns n fields of a same many =
+    let vs = read (drop 1 ns) in
+    let long : count vs ≡ n = counted n (drop 1 ns) a.whole in
+    ap (fit (Records of)) a.is ∙ if_true (count vs == number_of of) (Ok (Fields vs)) (Err Range) (same_test (count vs) (number_of of) (long ∙ same ∙ sym many)) ∙ ap (λ v. Ok v) (sym a.is)
+
+pub record_fails : (ns : List Node) (n fields : ℕ) (of : Subtypes) → IsRecord ns n → (n ≡ fields → ⊥) → number_of of ≡ fields → fit (Records of) (value_in (read ns)) ≡ Err Range
+record_fails ns n fields of a apart many =
+    let vs = read (drop 1 ns) in
+    let long : count vs ≡ n = counted n (drop 1 ns) a.whole in
+    ap (fit (Records of)) a.is ∙ if_false (count vs == number_of of) (Ok (Fields vs)) (Err Range) (no_test (count vs) (number_of of) (λ e. apart (sym long ∙ e ∙ many)))
 
 many_elements : (ns : List Node) (b : Bounds) → IsArray ns b → count (read (drop 2 ns)) ≡ length_of b
 many_elements ns b a = counted (length_of b) (drop 2 ns) a.whole

@@ -10,3 +10,4 @@ pub mod Laws
 pub mod Nodes
 pub mod Codes
 pub mod Answers
+pub mod Vectors

@@ -3,11 +3,11 @@
 ghost use Rattle.std.specs.Prelude.{◌≡◌, Some, None};
 ghost use Rattle.vd_composites.specs.Answers.{MadeNodes};
 ghost use Rattle.vd_composites.specs.Nodes.{after, read, value_in};
-ghost use Rattle.vd_composites.specs.Subtypes.{Arrays, Scalars, Subtype, fit};
+ghost use Rattle.vd_composites.specs.Subtypes.{Arrays, Records, Scalars, Subtype, Subtypes, fit, number_of};
 ghost use Rattle.vd_composites.specs.declared.scalars.ScalarSubtype.{ScalarSubtype};
 
 use crate::ends::ValueEnd;
-use crate::nodes::{Node, bounds_at, scalar_at};
+use crate::nodes::{Node, bounds_at, fields_at, scalar_at};
 use crate::ranges::Bounds;
 use crate::scalars::ScalarSubtype;
 use vd_values::StopKind;
@@ -59,5 +59,19 @@ pub(crate) fn fit_bounded_nodes(mut nodes: Vec<Node>, bounds: Bounds) -> Result<
         down: bounds.down,
     };
     nodes[1] = Node::Right(bounds.right);
+    Ok(nodes)
+}
+
+/// A value made one of a record subtype of so many fields.
+pub(crate) fn fit_record_nodes(nodes: Vec<Node>, fields: u32) -> Result<Vec<Node>, ValueEnd>
+    requires { after 1 nodes.items ≡ Some 0 }
+    ensures { (of : Subtypes) → number_of of ≡ fields → MadeNodes result (fit (Records of) (value_in (read nodes.items))) }
+{
+    let Some(own) = fields_at(&nodes) else {
+        return Err(ValueEnd::Stop(StopKind::Range));
+    };
+    if own != fields {
+        return Err(ValueEnd::Stop(StopKind::Range));
+    }
     Ok(nodes)
 }

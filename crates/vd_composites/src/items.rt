@@ -1,13 +1,11 @@
 //! Values one after the other, of which arrays and records are made.
 
-ghost use Rattle.std.specs.Prelude.{◌≡◌, FitsSigned, Ok, OnOk, OnErr};
-ghost use Rattle.std.specs.Int.{w64};
+ghost use Rattle.std.specs.Prelude.{◌≡◌, Ok, OnOk, OnErr};
 ghost use Rattle.vd_composites.specs.Answers.{Answers};
 ghost use Rattle.vd_composites.specs.Composites.{One, count, item, items_in, joined, none};
 ghost use Rattle.vd_composites.specs.Composites.{Fields as FieldsOf};
 ghost use Rattle.vd_composites.specs.Concatenations.{array_on};
 ghost use Rattle.vd_composites.specs.Parts.{array_of};
-ghost use Rattle.vd_composites.specs.Ranges.{one_before};
 
 use crate::ends::ValueEnd;
 use crate::joining::{add_items, array_nodes, array_on_nodes, record_nodes};
@@ -105,7 +103,6 @@ impl Items {
 
     /// An array from the left bound of an index subtype on, of the elements.
     pub fn array_on(&self, alloc: Global, index: ScalarSubtype) -> Result<Value, ValueEnd>
-        requires { FitsSigned w64 (one_before index.range.down index.range.left) }
         ensures { Answers result (array_on index self.now) }
     {
         value_from(array_on_nodes(alloc, index, &self.nodes, self.number))

@@ -1,13 +1,13 @@
 //! Concatenations, over the nodes of values.
 
-ghost use Rattle.std.specs.Prelude.{◌≡◌, ◌∷◌, ◌++◌, Some, None, IfOk, OnOk, OnErr, FitsSigned, if◌then◌else◌};
-ghost use Rattle.std.specs.Int.{w64};
-ghost use Rattle.vd_composites.specs.Answers.{MadeNodes};
+ghost use Rattle.std.specs.Prelude.{◌≡◌, ◌∷◌, ◌++◌, Some, IfOk, OnOk, OnErr, if◌then◌else◌};
+ghost use Rattle.vd_composites.specs.Answers.{Found, MadeNodes};
 ghost use Rattle.vd_composites.specs.Composites.{joined};
 ghost use Rattle.vd_composites.specs.Composites.{Fields as FieldsOf};
 ghost use Rattle.vd_composites.specs.Parts.{array_of};
 ghost use Rattle.vd_composites.specs.Concatenations.{array_on};
 ghost use Rattle.vd_composites.specs.Nodes.{after, read};
+ghost use Rattle.vd_values.specs.declared.scalar.StopKind.TheVariants.{Index};
 ghost use Rattle.vd_composites.specs.declared.nodes.Node.TheVariants.{Array, Right};
 ghost use Rattle.vd_composites.specs.Ranges.{from_left, lies_within, one_before, steps_on};
 
@@ -29,18 +29,20 @@ fn right_of(left: i64, down: bool, count: usize) -> i128
     }
 }
 
-/// The bounds of so many elements, where they lie within the range of an index subtype.
-fn bounds_on(range: Bounds, count: usize) -> Option<Bounds>
-    requires { FitsSigned w64 (one_before range.down range.left) }
-    ensures { result ≡ (if lies_within range (from_left range.left range.down count) then Some (from_left range.left range.down count) else None) }
+/// The bounds of so many elements, where they lie within the range of an index subtype. Bounds that no `i64` holds are taken for want of
+/// memory.
+fn bounds_on(range: Bounds, count: usize) -> Result<Bounds, ValueEnd>
+    ensures { Found result (if lies_within range (from_left range.left range.down count) then Ok (from_left range.left range.down count) else Err Index) }
 {
     if count > 0 && count as u128 > range.length() {
-        return None;
+        return Err(ValueEnd::Stop(StopKind::Index));
     }
-    let right = right_of(range.left, range.down, count);
-    Some(Bounds {
+    let Ok(right) = i64::try_from(right_of(range.left, range.down, count)) else {
+        return Err(ValueEnd::Memory);
+    };
+    Ok(Bounds {
         left: range.left,
-        right: right as i64,
+        right,
         down: range.down,
     })
 }
@@ -107,13 +109,12 @@ pub(crate) fn array_on_nodes(
     nodes: &[Node],
     count: usize,
 ) -> Result<Vec<Node>, ValueEnd>
-    requires before { FitsSigned w64 (one_before index.range.down index.range.left) }
-    requires items { after count nodes.now ≡ Some 0 }
+    requires { after count nodes.now ≡ Some 0 }
     ensures { MadeNodes result (array_on index (read nodes.now)) }
 {
     match bounds_on(index.range, count) {
-        None => Err(ValueEnd::Stop(StopKind::Index)),
-        Some(bounds) => array_nodes(alloc, bounds, nodes, count),
+        Err(end) => Err(end),
+        Ok(bounds) => array_nodes(alloc, bounds, nodes, count),
     }
 }
 

@@ -14,6 +14,7 @@ pub mod scalars;
 #[cfg(test)]
 mod tests;
 pub mod value;
+mod vectors;
 
 pub use ends::ValueEnd;
 pub use items::Items;

@@ -70,13 +70,13 @@ pub(crate) fn fields_at(nodes: &[Node]) -> Option<u32>
 
 /// The nodes of an item's own, and how many items stand in it.
 #[derive(Clone, Copy)]
-struct Head {
-    width: usize,
-    parts: usize,
+pub(crate) struct Head {
+    pub(crate) width: usize,
+    pub(crate) parts: usize,
 }
 
 /// The head of the first item.
-fn head_of(nodes: &[Node]) -> Head
+pub(crate) fn head_of(nodes: &[Node]) -> Head
     requires { (m : ℕ) × (after (suc m) nodes.now ≡ Some 0) }
     ensures width { result.width ≡ width_of nodes.now }
     ensures parts { result.parts ≡ parts_in nodes.now }
@@ -97,13 +97,17 @@ fn head_of(nodes: &[Node]) -> Head
     }
 }
 
-/// How many nodes the first items have.
-pub(crate) fn front(nodes: &[Node], items: usize) -> usize
-    requires { (k : ℕ) × (after (items + k) nodes.now ≡ Some 0) }
+/// How many nodes the first items have, of so many in all. Where each item is a node, as in a vector, these are as many.
+pub(crate) fn front(nodes: &[Node], items: usize, total: usize) -> usize
+    requires there { (k : ℕ) × (after (items + k) nodes.now ≡ Some 0) }
+    requires all { after total nodes.now ≡ Some 0 }
     ensures within { result ≤ length nodes.now }
     ensures front { after items (take result nodes.now) ≡ Some 0 }
 {
-    let _most = nodes.len();
+    let most = nodes.len();
+    if most == total {
+        return items;
+    }
     let mut place = 0;
     let mut left = items;
     while left > 0 {
@@ -121,13 +125,15 @@ pub(crate) fn items_behind(
     nodes: &[Node],
     place: usize,
     items: usize,
+    total: usize,
 ) -> Result<Vec<Node>, AllocError>
-    requires { (k : ℕ) × (after (place + (items + k)) nodes.now ≡ Some 0) }
+    requires there { (k : ℕ) × (after (place + (items + k)) nodes.now ≡ Some 0) }
+    requires all { after total nodes.now ≡ Some 0 }
     ensures { IfOk result (λ made. HasItems head.now nodes.now place items made.items) }
 {
-    let start = front(nodes, place);
+    let start = front(nodes, place, total);
     let rest = &nodes[start..];
-    let end = front(rest, items);
+    let end = front(rest, items, total - place);
     let mut made = Vec::from_slice(alloc, head)?;
     made.extend_from_slice(&rest[..end])?;
     Ok(made)
@@ -140,15 +146,17 @@ pub(crate) fn items_replaced(
     nodes: &[Node],
     place: usize,
     items: usize,
+    total: usize,
     new: &[Node],
 ) -> Result<Vec<Node>, AllocError>
     requires there { (k : ℕ) × (after (place + (items + k)) nodes.now ≡ Some 0) }
+    requires all { after total nodes.now ≡ Some 0 }
     requires as_many { after items new.now ≡ Some 0 }
     ensures { IfOk result (λ made. Replaces head.now nodes.now place items new.now made.items) }
 {
-    let start = front(nodes, place);
+    let start = front(nodes, place, total);
     let rest = &nodes[start..];
-    let end = front(rest, items);
+    let end = front(rest, items, total - place);
     let mut made = Vec::from_slice(alloc, head)?;
     made.extend_from_slice(&nodes[..start])?;
     made.extend_from_slice(new)?;

@@ -29,7 +29,8 @@ pub(crate) fn element_nodes(
         return Err(ValueEnd::Stop(StopKind::Index));
     }
     let place = bounds.place(index) as usize;
-    match items_behind(alloc, &[], &nodes[2..], place, 1) {
+    let many = bounds.length();
+    match items_behind(alloc, &[], &nodes[2..], place, 1, many as usize) {
         Ok(made) => Ok(made),
         Err(_) => Err(ValueEnd::Memory),
     }
@@ -47,7 +48,7 @@ pub(crate) fn field_nodes(alloc: Global, nodes: &[Node], number: u32) -> Result<
     if number >= count {
         return Err(ValueEnd::Stop(StopKind::Range));
     }
-    match items_behind(alloc, &[], &nodes[1..], number as usize, 1) {
+    match items_behind(alloc, &[], &nodes[1..], number as usize, 1, count as usize) {
         Ok(made) => Ok(made),
         Err(_) => Err(ValueEnd::Memory),
     }
@@ -89,7 +90,15 @@ pub(crate) fn slice_nodes(
     ];
     let place = start_of(bounds, range);
     let items = range.length();
-    match items_behind(alloc, &head, &nodes[2..], place as usize, items as usize) {
+    let many = bounds.length();
+    match items_behind(
+        alloc,
+        &head,
+        &nodes[2..],
+        place as usize,
+        items as usize,
+        many as usize,
+    ) {
         Ok(made) => Ok(made),
         Err(_) => Err(ValueEnd::Memory),
     }

@@ -31,7 +31,16 @@ pub(crate) fn with_element_nodes(
         return Err(ValueEnd::Stop(StopKind::Index));
     }
     let place = bounds.place(index) as usize;
-    match items_replaced(alloc, &nodes[..2], &nodes[2..], place, 1, new) {
+    let many = bounds.length();
+    match items_replaced(
+        alloc,
+        &nodes[..2],
+        &nodes[2..],
+        place,
+        1,
+        many as usize,
+        new,
+    ) {
         Ok(made) => Ok(made),
         Err(_) => Err(ValueEnd::Memory),
     }
@@ -55,7 +64,15 @@ pub(crate) fn with_field_nodes(
     if number >= count {
         return Err(ValueEnd::Stop(StopKind::Range));
     }
-    match items_replaced(alloc, &nodes[..1], &nodes[1..], number as usize, 1, new) {
+    match items_replaced(
+        alloc,
+        &nodes[..1],
+        &nodes[1..],
+        number as usize,
+        1,
+        count as usize,
+        new,
+    ) {
         Ok(made) => Ok(made),
         Err(_) => Err(ValueEnd::Memory),
     }
@@ -87,12 +104,14 @@ pub(crate) fn with_slice_nodes(
         return Err(ValueEnd::Stop(StopKind::Length));
     }
     let place = start_of(bounds, range) as usize;
+    let many = bounds.length();
     match items_replaced(
         alloc,
         &nodes[..2],
         &nodes[2..],
         place,
         items as usize,
+        many as usize,
         &new[2..],
     ) {
         Ok(made) => Ok(made),

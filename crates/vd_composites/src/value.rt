@@ -3,21 +3,23 @@
 ghost use Rattle.std.specs.Prelude.{◌≡◌, Some, None, IfOk, Option};
 ghost use Rattle.vd_values.specs.declared.scalar.Scalar.{Scalar};
 ghost use Rattle.vd_composites.specs.declared.scalars.ScalarSubtype.{ScalarSubtype};
-ghost use Rattle.vd_composites.specs.Answers.{Answers, MadeNodes};
-ghost use Rattle.vd_composites.specs.Composites.{One, bounds_of, scalar_of};
+ghost use Rattle.vd_composites.specs.Answers.{Answers, ListAnswers, MadeNodes};
+ghost use Rattle.vd_composites.specs.Composites.{One, bounds_of, same_value, scalar_of};
 ghost use Rattle.vd_composites.specs.Composites.{Value as AnyValue};
 ghost use Rattle.vd_composites.specs.Nodes.{after, read, value_in};
-ghost use Rattle.vd_composites.specs.Parts.{AtField, AtIndex, AtSlice, part, with_part};
+ghost use Rattle.vd_composites.specs.Parts.{AtField, AtIndex, AtSlice, array_of, part, with_part};
 ghost use Rattle.vd_composites.specs.Stops.{OrStop};
-ghost use Rattle.vd_composites.specs.Subtypes.{Arrays, Scalars, Subtype, fit};
+ghost use Rattle.vd_composites.specs.Vectors.{literals, positions_of};
+ghost use Rattle.vd_composites.specs.Subtypes.{Arrays, Records, Scalars, Subtype, Subtypes, fit, number_of};
 
 use crate::ends::ValueEnd;
-use crate::fitting::{fit_bounded_nodes, fit_free_nodes, fit_scalar_nodes};
+use crate::fitting::{fit_bounded_nodes, fit_free_nodes, fit_record_nodes, fit_scalar_nodes};
 use crate::nodes::{Node, bounds_at, node_of, scalar_at};
 use crate::parts::{element_nodes, field_nodes, slice_nodes};
 use crate::ranges::Bounds;
 use crate::replacing::{with_element_nodes, with_field_nodes, with_slice_nodes};
 use crate::scalars::ScalarSubtype;
+use crate::vectors::{literal_nodes, positions_nodes, same_nodes};
 use std::alloc::{AllocError, Global};
 use std::marker::Model;
 use vd_values::Scalar;
@@ -62,6 +64,14 @@ impl Value {
         ensures { IfOk result (λ v. v ≡ One scalar) }
     {
         let nodes = Vec::from_slice(alloc, &[node_of(scalar)])?;
+        Ok(Value { nodes })
+    }
+
+    /// The same value again.
+    pub fn duplicate(&self, alloc: Global) -> Result<Value, AllocError>
+        ensures { IfOk result (λ v. v ≡ self.now) }
+    {
+        let nodes = Vec::from_slice(alloc, &self.nodes)?;
         Ok(Value { nodes })
     }
 
@@ -129,6 +139,27 @@ impl Value {
         value_from(with_field_nodes(alloc, &self.nodes, number, &new.nodes))
     }
 
+    /// The positions of the elements, where the value is an array of integers or of literals.
+    pub fn positions(&self, alloc: Global) -> Result<Vec<i64>, ValueEnd>
+        ensures { ListAnswers result (positions_of self.now) }
+    {
+        positions_nodes(alloc, &self.nodes)
+    }
+
+    /// An array of literals with these bounds, by their positions.
+    pub fn of_literals(alloc: Global, bounds: Bounds, positions: &[u8]) -> Result<Value, ValueEnd>
+        ensures { Answers result (array_of bounds (literals positions.now)) }
+    {
+        value_from(literal_nodes(alloc, bounds, positions))
+    }
+
+    /// Whether two values are equal. The bounds of arrays don't count, their lengths do.
+    pub fn equals(&self, other: &Value) -> bool
+        ensures { result ≡ same_value self.now other.now }
+    {
+        same_nodes(&self.nodes, &other.nodes)
+    }
+
     /// The value made one of a scalar subtype.
     pub fn fit_scalar(self, subtype: ScalarSubtype) -> Result<Value, ValueEnd>
         ensures { Answers result (fit (Scalars subtype) self) }
@@ -148,5 +179,12 @@ impl Value {
         ensures { (index : ScalarSubtype) (of : Subtype) → Answers result (fit (Arrays index (Some bounds) of) self) }
     {
         value_from(fit_bounded_nodes(self.nodes, bounds))
+    }
+
+    /// The value made one of a record subtype of so many fields, which are of any subtypes.
+    pub fn fit_record(self, fields: u32) -> Result<Value, ValueEnd>
+        ensures { (of : Subtypes) → number_of of ≡ fields → Answers result (fit (Records of) self) }
+    {
+        value_from(fit_record_nodes(self.nodes, fields))
     }
 }

@@ -1,11 +1,14 @@
 use Rattle.std.proofs.Common.{arith, ◌≡◌, ◌+◌, ◌-◌, ◌++◌, Some, List, length, take, drop, append_assoc, sym, ap, ◌∙◌}
 use Rattle.vd_composites.specs.declared.nodes.Node.{Node}
 use Rattle.vd_composites.specs.Nodes.{after}
-use Rattle.vd_composites.proofs.NodeSteps.{tail_of, rest_wanted, replaced_read, replaced_whole}
+use Rattle.vd_composites.proofs.NodeSteps.{tail_of, rest_wanted, rest_all, same_wanted, replaced_read, replaced_whole}
 use Rattle.vd_composites.proofs.nodes.items_replaced.Goals as goal
 
-pub front-end-requires : goal.front-end-requires
-front-end-requires c = rest_wanted c.args.place c.args.items c.requires.there.0 c.front-start.result c.args.nodes.now c.front-start.ensures.front c.requires.there.1
+pub front-end-requires-clause-there : goal.front-end-requires-clause-there
+front-end-requires-clause-there c = rest_wanted c.args.place c.args.items c.requires.there.0 c.front-start.result c.args.nodes.now c.front-start.ensures.front c.requires.there.1
+
+pub front-end-requires-clause-all : goal.front-end-requires-clause-all
+front-end-requires-clause-all c = rest_all c.args.place c.args.items c.requires.there.0 c.args.total c.front-start.result c.args.nodes.now c.front-start.ensures.front c.requires.there.1 c.requires.all
 
 pub returns : goal.returns
 returns c =
@@ -27,3 +30,8 @@ returns c =
       whole = λ k h. replaced_whole c.args.place c.args.items k start end ns c.args.new.now c.front-start.ensures.front inside c.requires.as_many h;
       are = replaced_read c.args.place c.args.items start end ns c.args.new.now c.front-start.ensures.front inside c.requires.as_many;
     }
+
+pub overflow_sub-total : goal.overflow_sub-total
+overflow_sub-total c =
+    let same : c.args.total ≡ c.args.place + (c.args.items + c.requires.there.0) = same_wanted c.args.total (c.args.place + (c.args.items + c.requires.there.0)) c.args.nodes.now c.requires.all c.requires.there.1 in
+    omega arith

@@ -1,12 +1,12 @@
-use Rattle.std.proofs.Common.{arith, ◌≡◌, ◌<◌, ◌≤◌, ◌+◌, true, sym, ap, ◌∙◌, subst, to_z, of_z, w64}
+use Rattle.std.proofs.Common.{arith, length, ◌≡◌, ◌<◌, ◌≤◌, ◌+◌, true, sym, ap, ◌∙◌, subst, to_z, of_z, w64}
 use Rattle.std.proofs.lemmas.Int.{to_z-of_z}
 use Rattle.vd_composites.specs.Ranges.{length_of, is_within, place_of}
 use Rattle.vd_composites.proofs.RangeLemmas.{place_below}
-use Rattle.vd_composites.proofs.ValueLemmas.{is_array, elements_wanted, element_made, bare_whole, bare_at}
+use Rattle.vd_composites.proofs.ValueLemmas.{is_array, all_elements, elements_wanted, element_made, bare_whole, bare_at}
 use Rattle.vd_composites.proofs.parts.element_nodes.Goals as goal
 
-pub items_behind-requires : goal.items_behind-requires
-items_behind-requires c =
+pub items_behind-requires-clause-there : goal.items_behind-requires-clause-there
+items_behind-requires-clause-there c =
     let a = is_array c.args.nodes.now c.in-Some.bounds c.requires (sym c.bounds_at.ensures ∙ c.in-Some.is) in
     let same : to_z w64 (of_z w64 c.args.index) ≡ c.args.index = to_z-of_z w64 c.args.index c.ranges.index in
     let inside : is_within c.in-Some.bounds c.args.index ≡ true = ap (is_within c.in-Some.bounds) (sym same) ∙ sym c.contains.ensures ∙ c.if-not-contains.false in
@@ -20,3 +20,15 @@ returns-in-Ok c =
     let same : to_z w64 (of_z w64 c.args.index) ≡ c.args.index = to_z-of_z w64 c.args.index c.ranges.index in
     let inside : is_within c.in-Some.bounds c.args.index ≡ true = ap (is_within c.in-Some.bounds) (sym same) ∙ sym c.contains.ensures ∙ c.if-not-contains.false in
     (bare_whole _ _ _ _ c.in-Ok.ensures, element_made c.args.nodes.now c.in-Some.bounds c.args.index c.in-Ok.made.items a inside (bare_at _ _ _ _ _ (c.place-place.ensures ∙ ap (place_of c.in-Some.bounds) same) c.in-Ok.ensures))
+
+pub items_behind-requires-clause-all : goal.items_behind-requires-clause-all
+items_behind-requires-clause-all c =
+    let a = is_array c.args.nodes.now c.in-Some.bounds c.requires (sym c.bounds_at.ensures ∙ c.in-Some.is) in
+    all_elements c.args.nodes.now c.in-Some.bounds c.length-many.result a c.length-many.ensures
+
+pub overflow_cast-many : goal.overflow_cast-many
+overflow_cast-many c =
+    let a = is_array c.args.nodes.now c.in-Some.bounds c.requires (sym c.bounds_at.ensures ∙ c.in-Some.is) in
+    let long : length_of c.in-Some.bounds + 2 ≤ length c.args.nodes.now = a.long in
+    let many : c.length-many.result ≡ length_of c.in-Some.bounds = c.length-many.ensures in
+    omega arith

@@ -5,12 +5,12 @@ use Rattle.vd_composites.specs.Answers.{HasItems}
 use Rattle.vd_composites.specs.Ranges.{length_of}
 use Rattle.vd_composites.specs.Parts.{is_slice}
 use Rattle.vd_composites.specs.Nodes.{slice_start}
-use Rattle.vd_composites.proofs.ValueLemmas.{is_array, elements_wanted}
+use Rattle.vd_composites.proofs.ValueLemmas.{is_array, all_elements, elements_wanted}
 use Rattle.vd_composites.proofs.SliceLemmas.{start_fits, slice_made}
 use Rattle.vd_composites.proofs.parts.slice_nodes.Goals as goal
 
-pub items_behind-requires : goal.items_behind-requires
-items_behind-requires c =
+pub items_behind-requires-clause-there : goal.items_behind-requires-clause-there
+items_behind-requires-clause-there c =
     let a = is_array c.args.nodes.now c.in-Some.bounds c.requires (sym c.bounds_at.ensures ∙ c.in-Some.is) in
     let is : is_slice c.in-Some.bounds c.args.range ≡ true = sym c.takes_slice.ensures ∙ c.if-not-takes_slice.false in
     let fit : slice_start c.in-Some.bounds c.args.range + length_of c.args.range ≤ length_of c.in-Some.bounds = start_fits c.in-Some.bounds c.args.range is in
@@ -36,4 +36,16 @@ overflow_cast-items c =
     let fit : slice_start c.in-Some.bounds c.args.range + length_of c.args.range ≤ length_of c.in-Some.bounds = start_fits c.in-Some.bounds c.args.range is in
     let long : length_of c.in-Some.bounds + 2 ≤ length c.args.nodes.now = a.long in
     let items : c.length-items.result ≡ length_of c.args.range = c.length-items.ensures in
+    omega arith
+
+pub items_behind-requires-clause-all : goal.items_behind-requires-clause-all
+items_behind-requires-clause-all c =
+    let a = is_array c.args.nodes.now c.in-Some.bounds c.requires (sym c.bounds_at.ensures ∙ c.in-Some.is) in
+    all_elements c.args.nodes.now c.in-Some.bounds c.length-many.result a c.length-many.ensures
+
+pub overflow_cast-many : goal.overflow_cast-many
+overflow_cast-many c =
+    let a = is_array c.args.nodes.now c.in-Some.bounds c.requires (sym c.bounds_at.ensures ∙ c.in-Some.is) in
+    let long : length_of c.in-Some.bounds + 2 ≤ length c.args.nodes.now = a.long in
+    let many : c.length-many.result ≡ length_of c.in-Some.bounds = c.length-many.ensures in
     omega arith

@@ -2,7 +2,7 @@ use Rattle.std.proofs.Common.{arith, ◌≡◌, ◌<◌, ◌≤◌, sym, ap, ◌
 use Rattle.vd_values.specs.declared.scalar.StopKind.TheVariants.{Range}
 use Rattle.vd_composites.specs.Parts.{AtField}
 use Rattle.vd_composites.specs.Nodes.{read, value_in}
-use Rattle.vd_composites.proofs.ValueLemmas.{is_record, field_wanted, field_outside}
+use Rattle.vd_composites.proofs.ValueLemmas.{is_record, all_fields, field_wanted, field_outside}
 use Rattle.vd_composites.proofs.ReplacedLemmas.{stops_too, field_replaced}
 use Rattle.vd_composites.proofs.replacing.with_field_nodes.Goals as goal
 
@@ -23,3 +23,6 @@ returns-in-Ok c =
     let a = is_record c.args.nodes.now c.in-Some.count c.requires.value (sym c.fields_at.ensures ∙ c.in-Some.is) in
     let below : c.args.number < c.in-Some.count = omega arith in
     field_replaced c.args.nodes.now c.in-Some.count c.args.number c.args.new.now c.in-Ok.made.items a below c.requires.field c.in-Ok.ensures
+
+pub items_replaced-requires-clause-all : goal.items_replaced-requires-clause-all
+items_replaced-requires-clause-all c = all_fields c.args.nodes.now c.in-Some.count (is_record c.args.nodes.now c.in-Some.count c.requires.value (sym c.fields_at.ensures ∙ c.in-Some.is))

@@ -2,7 +2,7 @@ use Rattle.std.proofs.Common.{arith, ◌≡◌, ◌<◌, ◌≤◌, ◌+◌, len
 use Rattle.vd_composites.specs.Ranges.{length_of}
 use Rattle.vd_composites.specs.Parts.{is_slice}
 use Rattle.vd_composites.specs.Nodes.{slice_start}
-use Rattle.vd_composites.proofs.ValueLemmas.{is_array, elements_wanted}
+use Rattle.vd_composites.proofs.ValueLemmas.{is_array, all_elements, elements_wanted}
 use Rattle.vd_composites.proofs.SliceLemmas.{start_fits}
 use Rattle.vd_composites.proofs.ReplacedLemmas.{slice_of_other_length, slice_of_no_array, slice_replaced, elements_as_many}
 use Rattle.vd_composites.proofs.replacing.with_slice_nodes.Goals as goal
@@ -70,3 +70,15 @@ returns-in-Ok c =
     let others : c.length.result ≡ length_of c.in-Some-bounds_at.others = c.length.ensures in
     let same : length_of c.in-Some-bounds_at.others ≡ length_of c.args.range = omega arith in
     slice_replaced c.args.nodes.now c.in-Some.bounds c.args.range c.in-Some-bounds_at.others c.start_of-place.result c.length-items.result c.args.new.now c.in-Ok.made.items a n is same c.start_of-place.ensures items c.in-Ok.ensures
+
+pub items_replaced-requires-clause-all : goal.items_replaced-requires-clause-all
+items_replaced-requires-clause-all c =
+    let a = is_array c.args.nodes.now c.in-Some.bounds c.requires.value (sym c.bounds_at.ensures ∙ c.in-Some.is) in
+    all_elements c.args.nodes.now c.in-Some.bounds c.length-many.result a c.length-many.ensures
+
+pub overflow_cast-many : goal.overflow_cast-many
+overflow_cast-many c =
+    let a = is_array c.args.nodes.now c.in-Some.bounds c.requires.value (sym c.bounds_at.ensures ∙ c.in-Some.is) in
+    let long : length_of c.in-Some.bounds + 2 ≤ length c.args.nodes.now = a.long in
+    let many : c.length-many.result ≡ length_of c.in-Some.bounds = c.length-many.ensures in
+    omega arith

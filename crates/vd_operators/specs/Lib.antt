@@ -1,0 +1,4 @@
+pub mod Arithmetic
+pub mod Attributes
+pub mod Texts
+pub mod Applied

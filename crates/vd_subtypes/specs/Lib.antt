@@ -1,0 +1,6 @@
+pub mod Heads
+pub mod Operands
+pub mod Laws
+pub mod Nodes
+pub mod Codes
+pub mod Stacks

@@ -1,0 +1,9 @@
+//! Laws of the definitions, each as the contract of a function that does nothing.
+
+ghost use Rattle.vd_subtypes.specs.Laws.{HeadsConcatenate, HeadsDecide};
+
+/// A value made one of a subtype, and a concatenation, depend on the head of the subtype alone.
+pub fn heads_decide()
+    ensures fitting { HeadsDecide }
+    ensures concatenation { HeadsConcatenate }
+{}
