@@ -1,5 +1,5 @@
 -- What the rules of scope and visibility ask of kinds of declarations. (IEEE 1076, scope and visibility; subprogram overloading)
-use Rattle.std.specs.Prelude.{ℕ, Bool, true, false, Option, Some, None}
+use Rattle.std.specs.Prelude.{ℕ, Bool, true, false, List, [], ◌∷◌, Option, Some, None}
 use Rattle.vd_declarations.specs.declared.classes.Class.{Class}
 use Rattle.vd_declarations.specs.declared.classes.Class.TheVariants as class
 
@@ -55,3 +55,16 @@ is_type _ = false
 abbrev pub library_of : Class → Option ℕ
 library_of (class.LibraryName library) = Some library
 library_of _ = None
+
+-- the types that a class names
+abbrev pub types_of : Class → List ℕ
+types_of (class.ArrayType index element element_mark) = index ∷ element ∷ []
+types_of _ = []
+
+-- the declarations that a class names besides
+abbrev pub named_by : Class → List ℕ
+named_by (class.LibraryName library) = library ∷ []
+named_by (class.ArrayType index element element_mark) = element_mark ∷ []
+named_by (class.Subtype mark) = mark ∷ []
+named_by (class.ActualFunction actual) = actual ∷ []
+named_by _ = []

@@ -5,7 +5,7 @@ use Rattle.vd_trees.specs.declared.revision.Revision.{Revision}
 use Rattle.vd_declarations.specs.declared.classes.Class.{Class}
 use Rattle.vd_declarations.specs.declared.classes.Class.TheVariants as class
 use Rattle.vd_declarations.specs.declared.declarations.Declaration.{Declaration}
-use Rattle.vd_declarations.specs.Classes.{is_type}
+use Rattle.vd_declarations.specs.Classes.{is_type, types_of, named_by}
 use Rattle.vd_forest.specs.Forest.{Forest, nothing, more}
 use Rattle.vd_forms.specs.Validity.{IsDesign}
 use Rattle.vd_resolved.specs.declared.node.Resolved.{Resolved}
@@ -30,19 +30,6 @@ OnSome P None = Unit {0}
 OnSome P (Some k) = P k
 
 -- ---- declarations
-
--- the declarations that a class names
-abbrev pub named_by : Class → List ℕ
-named_by (class.LibraryName library) = library ∷ []
-named_by (class.ArrayType index element element_mark) = element_mark ∷ []
-named_by (class.Subtype mark) = mark ∷ []
-named_by (class.ActualFunction actual) = actual ∷ []
-named_by _ = []
-
--- the types that a class names
-abbrev pub types_of : Class → List ℕ
-types_of (class.ArrayType index element element_mark) = index ∷ element ∷ []
-types_of _ = []
 
 -- it names declarations of the list, and types where it names a type
 pub record IsAmong (declarations : List Declaration) (d : Declaration) : Type 0 where
