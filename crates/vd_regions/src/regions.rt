@@ -122,6 +122,13 @@ impl Regions {
         (region.number() as usize) < self.spaces.len()
     }
 
+    /// Whether a declaration was entered under this number.
+    pub fn is_declaration(&self, id: DeclId) -> bool
+        ensures { result ≡ nat_lt id (length self.now.entered) }
+    {
+        (id.number() as usize) < self.links.len()
+    }
+
     /// A new region inside another.
     pub fn nest(&mut self, outer: RegionId) -> Result<RegionId, AllocError>
         requires { outer < length self.old.regions }
