@@ -1,4 +1,6 @@
+pub mod HomographLemmas
 pub mod LinkLemmas
+pub mod MeaningLemmas
 pub mod MemberLemmas
 pub mod PlaceLemmas
 pub mod ProfileLemmas

@@ -7,11 +7,11 @@ use Rattle.std.proofs.lemmas.List.Folds.{position_or_len_push}
 use Rattle.std.proofs.lemmas.List.Sums.{prefix_len-le-length}
 use Rattle.std.proofs.lemmas.Slice.Eq.{bytes_eq-Decides}
 use Rattle.std.proofs.lemmas.Bool.{cases_Bool, cases_eq, cases_lt, and_parts, eqb-true, eq-eqb, ne_eqb, lt-ltb, le-ltb}
-use Rattle.std.proofs.lemmas.List.{take_all, length-take-le, get_or_append_left, get_or_at, length_push, get_or_read, get_or-map, map-append, length-map}
+use Rattle.std.proofs.lemmas.List.{append-nil, take_all, length-take-le, get_or_append_left, get_or_at, length_push, get_or_read, get_or-map, map-append, length-map}
 use Rattle.vd_regions.specs.declared.entries.Entered.{Entered}
 use Rattle.vd_regions.specs.declared.entries.Link.{Link}
 use Rattle.vd_regions.specs.declared.entries.Key.{Key}
-use Rattle.vd_regions.specs.Scopes.{Scopes, nothing_entered, stands_in, chain_of, region_at}
+use Rattle.vd_regions.specs.Scopes.{Scopes, nothing_entered, stands_in, continued, chain_of, region_at}
 use Rattle.vd_regions.specs.Found.{entered_below}
 use Rattle.vd_regions.specs.Links.{newest_below, table_of, entered_of, no_link, same_key}
 
@@ -292,8 +292,16 @@ linked_push links link linked before k within = elim (cases_eq k (length links))
 -- ---- chains of regions
 
 pub chain_step : (s : Scopes) (at left : ℕ) → 0 < left → (at ≡ 0 → ⊥)
-    → chain_of left s at ≡ at ∷ chain_of (left - 1) s (region_at s at).outer
+    → chain_of left s at ≡ at ∷ (continued s at ++ chain_of (left - 1) s (region_at s at).outer)
 chain_step s at left some inner =
     let e : suc (left - 1) ≡ left = omega arith in
     ap (λ n. chain_of n s at) (sym e)
-    ∙ ap (λ b. at ∷ (if b then [] else chain_of (left - 1) s (region_at s at).outer)) (ne_eqb at 0 inner)
+    ∙ ap (λ b. at ∷ (continued s at ++ (if b then [] else chain_of (left - 1) s (region_at s at).outer))) (ne_eqb at 0 inner)
+
+-- the region of the libraries is the last
+pub chain_end : (s : Scopes) (at left : ℕ) → 0 < left → at ≡ 0 → chain_of left s at ≡ at ∷ continued s at
+chain_end s at left some root =
+    let e : suc (left - 1) ≡ left = omega arith in
+    ap (λ n. chain_of n s at) (sym e)
+    ∙ ap (λ b. at ∷ (continued s at ++ (if b then [] else chain_of (left - 1) s (region_at s at).outer))) (eq-eqb at 0 root)
+    ∙ ap (λ rs. at ∷ rs) (append-nil (continued s at))

@@ -255,7 +255,7 @@ module _ (s : Scopes) (name : List ℕ) where
 true_from : (s : Scopes) (place inside : ℕ) (c : Class) → opens s place inside c ≡ true → Opens s place inside c
 true_from s place inside class.Library t = tt
 true_from s place inside class.Package t = t
-true_from s place inside class.GenericPackage t = t
+true_from s place inside class.UninstantiatedPackage t = t
 true_from s place inside class.PackageInstance t = t
 true_from s place inside class.RecordType t = t
 true_from s place inside class.Entity t =
@@ -272,7 +272,7 @@ true_from s place inside _ t = absurd (true≢false (sym t))
 to_true : (s : Scopes) (place inside : ℕ) (c : Class) → Opens s place inside c → opens s place inside c ≡ true
 to_true s place inside class.Library o = refl
 to_true s place inside class.Package o = o
-to_true s place inside class.GenericPackage o = o
+to_true s place inside class.UninstantiatedPackage o = o
 to_true s place inside class.PackageInstance o = o
 to_true s place inside class.RecordType o = o
 to_true s place inside class.Entity o = and_from _ _ o.0 (there (chain s place) o.1)

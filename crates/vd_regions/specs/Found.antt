@@ -1,22 +1,30 @@
 -- The lists in which the code gathers what is visible. What is visible is defined apart from these, in Visible.
-use Rattle.std.specs.Prelude.{ℕ, zero, suc, ◌==◌, Bool, ◌&&◌, not, List, [], ◌∷◌, ◌++◌, length, Option, Some, None, true, false, if◌then◌else◌, slice_index_or}
+use Rattle.std.specs.Prelude.{ℕ, zero, suc, ◌==◌, Bool, ◌&&◌, not, List, [], ◌∷◌, ◌++◌, length, Option, Some, None, true, false, if◌then◌else◌, slice_index_or, position, min}
 use Rattle.std.specs.List.{filter, flat_map, list_all, list_any}
 use Rattle.std.specs.Str.{bytes_eq}
+use Rattle.vd_declarations.specs.declared.declarations.Declaration.{Declaration}
 use Rattle.vd_declarations.specs.declared.classes.Class.{Class}
 use Rattle.vd_declarations.specs.declared.classes.Class.TheVariants as class
-use Rattle.vd_declarations.specs.Classes.{is_overloadable}
+use Rattle.vd_declarations.specs.Classes.{is_overloadable, is_function}
 use Rattle.vd_regions.specs.declared.entries.Entered.{Entered}
 use Rattle.vd_regions.specs.Scopes.{Scopes, Clause, nothing_entered, region_at, declaration_at, stands_in, chain}
-use Rattle.vd_regions.specs.Homographs.{apart, replaces}
+use Rattle.vd_regions.specs.Homographs.{apart, replaces, may_stand_beside}
+
+-- ---- homographs
+
+-- the first declaration of one region beside which a new one may not stand
+abbrev pub clashes_in : Scopes → ℕ → Declaration → Entered → Bool
+clashes_in s region new e = stands_in region new.name e && not (may_stand_beside s e.declaration new)
+
+abbrev pub first_in : Scopes → ℕ → Declaration → Option ℕ
+first_in s region new = position (clashes_in s region new) s.entered
+
+abbrev pub earlier : Option ℕ → Option ℕ → Option ℕ
+earlier None other = other
+earlier (Some m) None = Some m
+earlier (Some m) (Some n) = Some (min m n)
 
 -- ---- what a region declares
-
--- what can take the place of an operator
-abbrev pub is_function : Class → Bool
-is_function class.Function = true
-is_function class.GenericFunction = true
-is_function class.InstanceFunction = true
-is_function _ = false
 
 -- of the first k entered those that pass a test, the newest first
 abbrev pub entered_below : (Entered → Bool) → List Entered → ℕ → List ℕ
@@ -84,7 +92,7 @@ by_use_among s around ks = filter (λ k. apart_from s around k && is_alone s ks 
 abbrev pub opens : Scopes → (place inside : ℕ) → Class → Bool
 opens s place inside class.Library = true
 opens s place inside class.Package = (region_at s inside).closed
-opens s place inside class.GenericPackage = (region_at s inside).closed
+opens s place inside class.UninstantiatedPackage = (region_at s inside).closed
 opens s place inside class.PackageInstance = (region_at s inside).closed
 opens s place inside class.RecordType = (region_at s inside).closed
 opens s place inside class.Entity = (region_at s inside).closed && list_any (λ r. r == inside) (chain s place)

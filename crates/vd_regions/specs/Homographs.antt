@@ -1,9 +1,11 @@
 -- Which declarations of one name may stand beside one another. (IEEE 1076, visibility: homographs; subprogram overloading: profiles)
 use Rattle.std.specs.Prelude.{ℕ, ◌==◌, nat_lt, Bool, true, false, ◌&&◌, ◌||◌, not, List, [], ◌∷◌, map, position, Option, Some, None}
+use Rattle.std.specs.List.{list_any}
+use Rattle.vd_declarations.specs.declared.classes.Class.{Class}
 use Rattle.vd_declarations.specs.declared.declarations.Declaration.{Declaration}
-use Rattle.vd_declarations.specs.Classes.{is_overloadable, takes_place_of, are_copies}
+use Rattle.vd_declarations.specs.Classes.{is_overloadable, is_function, is_predefined, is_copy, library_of}
 use Rattle.vd_regions.specs.declared.entries.Entered.{Entered}
-use Rattle.vd_regions.specs.Scopes.{Scopes, declaration_at, stands_in}
+use Rattle.vd_regions.specs.Scopes.{Scopes, declaration_at, stands_in, continued}
 
 -- ---- profiles: the types of the parameters, and that of the result
 
@@ -34,14 +36,33 @@ apart s d e = is_overloadable d.class && (is_overloadable e.class && not (same_p
 
 -- ---- in one region
 
--- two declarations of one name may stand in one region: they are apart, or the new one takes the place of an operator that a type
--- brought with it, or both are functions of an instance whose profiles became equal
-abbrev pub may_stand_beside : Scopes → Declaration → Declaration → Bool
-may_stand_beside s old new = apart s old new || (takes_place_of new.class old.class || are_copies new.class old.class)
+-- A function of a user that stands in the region of a predefined operator with its name and profile takes the operator's place there.
+abbrev pub takes_place_of : Class → Class → Bool
+takes_place_of new old = is_function new && is_predefined old
 
--- an earlier declaration of the region beside which the new one may not stand
+-- Functions of a package instance may get equal profiles by the instance's types, and stand side by side then.
+abbrev pub are_copies : Class → Class → Bool
+are_copies new old = is_copy new && is_copy old
+
+-- Several library clauses of one context may name one library.
+abbrev pub are_one : Option ℕ → Option ℕ → Bool
+are_one (Some l) (Some m) = l == m
+are_one None other = false
+are_one (Some l) None = false
+
+abbrev pub name_one_library : Class → Class → Bool
+name_one_library new old = are_one (library_of new) (library_of old)
+
+-- two declarations of one name may stand in one region: they are apart, or the new one takes the place of an operator that a type
+-- brought with it, or both are functions of an instance whose profiles became equal, or both name one library
+abbrev pub may_stand_beside : Scopes → Declaration → Declaration → Bool
+may_stand_beside s old new =
+    apart s old new || (takes_place_of new.class old.class || (are_copies new.class old.class || name_one_library new.class old.class))
+
+-- an earlier declaration of the region, or of what it continues, beside which the new one may not stand
 abbrev pub clashes : Scopes → ℕ → Declaration → Entered → Bool
-clashes s region new e = stands_in region new.name e && not (may_stand_beside s e.declaration new)
+clashes s region new e =
+    list_any (λ r. stands_in r new.name e) (region ∷ continued s region) && not (may_stand_beside s e.declaration new)
 
 -- the first such declaration
 abbrev pub homograph : Scopes → ℕ → Declaration → Option ℕ

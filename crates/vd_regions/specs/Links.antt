@@ -24,7 +24,7 @@ abbrev pub same_key : Key → Key → Bool
 same_key a b = (a.region == b.region) && bytes_eq a.name.items b.name.items
 
 abbrev pub region_of : Space → Region
-region_of p = record { outer = p.outer; closed = p.closed; uses = p.uses }
+region_of p = record { outer = p.outer; continues = p.continues; closed = p.closed; uses = p.uses }
 
 -- the table that a declaration stands in
 abbrev pub table_of : Entered → Entered → Bool

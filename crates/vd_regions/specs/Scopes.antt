@@ -1,11 +1,13 @@
 -- Regions, the declarations in them, and their use clauses, in the order in which they were entered. This is all that contracts see
 -- of `Regions`. A region and a declaration are numbers, and the region round another is older than it.
-use Rattle.std.specs.Prelude.{ℕ, zero, suc, ◌==◌, ◌&&◌, Bool, false, List, [], ◌∷◌, Option, None, if◌then◌else◌, slice_index_or}
+use Rattle.std.specs.Prelude.{ℕ, zero, suc, ◌==◌, ◌&&◌, ◌++◌, Bool, false, List, [], ◌∷◌, Option, None, if◌then◌else◌, slice_index_or, option_to_list}
+use Rattle.std.specs.Option.{unwrap_or}
 use Rattle.std.specs.Str.{bytes_eq}
 use Rattle.vd_bytes.specs.declared.places.Place.{Place}
 use Rattle.vd_declarations.specs.declared.declarations.Declaration.{Declaration}
 use Rattle.vd_declarations.specs.declared.classes.Class.TheVariants as class
 use Rattle.vd_declarations.specs.declared.classes.Made.TheVariants as made
+use Rattle.vd_declarations.specs.Classes.{meaning}
 use Rattle.vd_regions.specs.declared.entries.Entered.{Entered}
 
 -- a use clause: all declarations of a region, or those of a name
@@ -13,9 +15,12 @@ pub record Clause : Type 0 where
   pub from : ℕ
   pub name : Option (List ℕ)
 
--- a region: the one round it, whether its end is reached, and its use clauses
+-- a region: the one round it, the one that it continues, whether its end is reached, and its use clauses. An architecture body
+-- continues its entity declaration, and a package body its package declaration: the two together are one declarative region of the
+-- standard, whose second part is seen in the body alone.
 pub record Region : Type 0 where
   pub outer : ℕ
+  pub continues : Option ℕ
   pub closed : Bool
   pub uses : List Clause
 
@@ -24,7 +29,7 @@ pub record Scopes : Type 0 where
   pub regions : List Region
 
 abbrev pub no_region : Region
-no_region = record { outer = 0; closed = false; uses = [] }
+no_region = record { outer = 0; continues = None; closed = false; uses = [] }
 
 abbrev pub first_place : Place
 first_place = record { file = 0; line = 1; column = 1 }
@@ -45,14 +50,22 @@ entered_at s k = slice_index_or s.entered k nothing_entered
 abbrev pub declaration_at : Scopes → ℕ → Declaration
 declaration_at s k = (entered_at s k).declaration
 
+-- what a name means that stands for this entry: mostly the entry itself
+abbrev pub meant : Scopes → ℕ → ℕ
+meant s k = unwrap_or (meaning (declaration_at s k).class) k
+
 -- it stands in the region under the name
 abbrev pub stands_in : ℕ → List ℕ → Entered → Bool
 stands_in region name e = (e.region == region) && bytes_eq e.declaration.name name
 
--- the region and those round it, from the innermost outwards, no more than so many
+-- what a region continues
+abbrev pub continued : Scopes → ℕ → List ℕ
+continued s region = option_to_list (region_at s region).continues
+
+-- the region and those round it, from the innermost outwards, each with what it continues; no more than so many
 abbrev pub chain_of : ℕ → Scopes → ℕ → List ℕ
 chain_of zero s region = []
-chain_of (suc n) s region = region ∷ (if region == 0 then [] else chain_of n s (region_at s region).outer)
+chain_of (suc n) s region = region ∷ (continued s region ++ (if region == 0 then [] else chain_of n s (region_at s region).outer))
 
 -- each region round another has a smaller number, so that there are no more than the region's number says, and the region of the
 -- libraries

@@ -5,7 +5,7 @@ use Rattle.std.specs.List.{Contains}
 use Rattle.vd_declarations.specs.declared.classes.Class.{Class}
 use Rattle.vd_declarations.specs.declared.classes.Class.TheVariants as class
 use Rattle.vd_declarations.specs.Classes.{is_overloadable}
-use Rattle.vd_regions.specs.Scopes.{Scopes, Clause, region_at, entered_at, declaration_at, chain}
+use Rattle.vd_regions.specs.Scopes.{Scopes, Clause, region_at, entered_at, declaration_at, meant, chain}
 use Rattle.vd_regions.specs.Homographs.{apart, replaces}
 
 -- a region declares it under the name
@@ -69,7 +69,7 @@ IsVisible s region name k = IsDirect s region name k ⊎ IsByUse s region name k
 abbrev pub Opens : Scopes → (place inside : ℕ) → Class → Type 0
 Opens s place inside class.Library = Unit {0}
 Opens s place inside class.Package = IsTrue (region_at s inside).closed
-Opens s place inside class.GenericPackage = IsTrue (region_at s inside).closed
+Opens s place inside class.UninstantiatedPackage = IsTrue (region_at s inside).closed
 Opens s place inside class.PackageInstance = IsTrue (region_at s inside).closed
 Opens s place inside class.RecordType = IsTrue (region_at s inside).closed
 Opens s place inside class.Entity = IsTrue (region_at s inside).closed × Contains (chain s place) inside
@@ -80,3 +80,11 @@ pub record IsSelected (s : Scopes) (place prefix : ℕ) (name : List ℕ) (k : �
   pub region : (declaration_at s prefix).inside ≡ Some inside
   pub opens : Opens s place inside (declaration_at s prefix).class
   pub declared : IsDeclared s inside name k
+
+-- ---- what a name means
+
+-- a declaration that some entries of these mean: mostly itself
+pub record IsMeant (s : Scopes) (P : ℕ → Type 0) (k : ℕ) : Type 0 where
+  pub entry : ℕ
+  pub found : P entry
+  pub means : meant s entry ≡ k

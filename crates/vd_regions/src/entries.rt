@@ -76,10 +76,11 @@ impl UseClauses {
     }
 }
 
-/// A region: the one round it, whether its end is reached, and its use clauses.
+/// A region: the one round it, the one that it continues, whether its end is reached, and its use clauses.
 #[derive(Drop)]
 pub(crate) struct Space {
     pub(crate) outer: u32,
+    pub(crate) continues: Option<u32>,
     pub(crate) closed: bool,
     pub(crate) uses: UseClauses,
 }

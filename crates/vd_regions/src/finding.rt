@@ -3,26 +3,17 @@
 ghost use Rattle.std.specs.Prelude.{◌≡◌, ◌↔◌, ◌<◌, ◌≤◌, ◌∷◌, ◌++◌, ◌&&◌, ◌==◌, ℕ, [], OnOk, OnErr, IfOk, Ok, Err, Some, None, true, false, length, map, not, if◌then◌else◌};
 ghost use Rattle.std.specs.List.{filter, flat_map, list_all, list_any, Contains};
 ghost use Rattle.std.specs.List.Sorted.{IsStrictlyIncreasing};
-ghost use Rattle.vd_declarations.specs.Classes.{is_overloadable, takes_place_of};
-ghost use Rattle.vd_regions.specs.Scopes.{Scopes, region_at, declaration_at, chain};
+ghost use Rattle.vd_declarations.specs.Classes.{is_overloadable, is_function};
+ghost use Rattle.vd_regions.specs.Scopes.{Scopes, region_at, declaration_at, meant, continued, chain};
 ghost use Rattle.vd_regions.specs.Homographs.{apart, replaces};
-ghost use Rattle.vd_regions.specs.Found.{entered_in, in_place, declared_of, declared_in, round, apart_from, direct_from, means, given_by, given, is_alone, by_use_among, is_function, functions_of, opens, selected_from};
+ghost use Rattle.vd_regions.specs.Visible.{IsMeant};
+ghost use Rattle.vd_regions.specs.Found.{entered_in, in_place, declared_of, declared_in, round, apart_from, direct_from, means, given_by, given, is_alone, by_use_among, functions_of, opens, selected_from};
 
 use crate::entries::{Key, UseClause};
 use crate::regions::Regions;
-use crate::tables::{is_overloadable, key_of, takes_place_of};
+use crate::tables::{key_of, takes_place_of};
 use std::alloc::{AllocError, Global};
 use vd_declarations::{Class, DeclId};
-
-/// Whether a declaration of this class can take the place of an operator.
-fn is_function(class: Class) -> bool
-    ensures { result ≡ is_function class }
-{
-    matches!(
-        class,
-        Class::Function | Class::GenericFunction | Class::InstanceFunction
-    )
-}
 
 impl Regions {
     /// What was entered in a region under a name, the newest first, behind what is found.
@@ -53,10 +44,14 @@ impl Regions {
         }
     }
 
-    /// Whether none of these takes the place of a declaration.
+    /// Whether none of these takes the place of a declaration. Only the place of an operator can be taken.
+    #[tactic(auto, using(crate::proofs::PlaceLemmas::no_operator))]
     fn is_in_place(&self, functions: &[u32], old: u32) -> bool
         ensures { result ≡ in_place self.now functions.now old }
     {
+        if !self.class_at(old).is_predefined() {
+            return true;
+        }
         for function in functions {
             if self.replaces(*function, old) {
                 return false;
@@ -71,7 +66,7 @@ impl Regions {
     {
         let mut found = Vec::new(alloc);
         for number in some {
-            if is_function(self.class_at(*number)) {
+            if self.class_at(*number).is_function() {
                 found.push(*number)?;
             }
         }
@@ -131,7 +126,17 @@ impl Regions {
         }
     }
 
-    /// A region and those round it, the innermost first.
+    /// What a region continues.
+    pub(crate) fn continues(&self, region: u32) -> Option<u32>
+        ensures { result ≡ (region_at self.now region).continues }
+    {
+        match self.spaces.get(region as usize) {
+            Some(space) => space.continues,
+            None => None,
+        }
+    }
+
+    /// A region and those round it, the innermost first, each with what it continues.
     pub(crate) fn chain(&self, alloc: Global, region: u32) -> Result<Vec<u32>, AllocError>
         ensures { IfOk result (λ regions. regions.items ≡ chain self.now region) }
     {
@@ -140,6 +145,7 @@ impl Regions {
         let mut left = u64::from(region) + 1;
         while left > 0 {
             regions.push(at)?;
+            self.add_continued(at, &mut regions)?;
             if at == 0 {
                 return Ok(regions);
             }
@@ -147,6 +153,16 @@ impl Regions {
             left -= 1;
         }
         Ok(regions)
+    }
+
+    /// What a region continues, behind what is found.
+    fn add_continued(&self, region: u32, found: &mut Vec<u32>) -> Result<(), AllocError>
+        ensures { OnOk result (found.new.items ≡ found.old.items ++ continued self.now region) }
+    {
+        if let Some(declaration) = self.continues(region) {
+            found.push(declaration)?;
+        }
+        Ok(())
     }
 
     /// Whether a declaration may stand beside another.
@@ -311,7 +327,7 @@ impl Regions {
         ensures { result ≡ list_all (λ k. is_overloadable (declaration_at self.now k).class) some.now }
     {
         for number in some {
-            if !is_overloadable(self.class_at(*number)) {
+            if !self.class_at(*number).is_overloadable() {
                 return false;
             }
         }
@@ -323,7 +339,7 @@ impl Regions {
         requires { all_overloadable ≡ list_all (λ k. is_overloadable (declaration_at self.now k).class) others.now }
         ensures { result ≡ is_alone self.now others.now number }
     {
-        if is_overloadable(self.class_at(number)) {
+        if self.class_at(number).is_overloadable() {
             all_overloadable
         } else {
             are_all(others, number)
@@ -363,8 +379,10 @@ impl Regions {
     {
         match class {
             Class::Library => Ok(true),
-            Class::Package | Class::GenericPackage | Class::PackageInstance | Class::RecordType =>
-                Ok(self.is_closed(inside)),
+            Class::Package
+            | Class::UninstantiatedPackage
+            | Class::PackageInstance
+            | Class::RecordType => Ok(self.is_closed(inside)),
             Class::Entity => {
                 let regions = self.chain(alloc, place)?;
                 Ok(self.is_closed(inside) && has(&regions, inside))
@@ -409,6 +427,44 @@ impl Regions {
     }
 }
 
+impl Regions {
+    /// The declaration that the name of an entry means.
+    fn meant(&self, number: u32) -> DeclId
+        ensures { result ≡ meant self.now number }
+    {
+        match self.class_at(number).meaning() {
+            Some(meant) => meant,
+            None => DeclId::of(number),
+        }
+    }
+
+    /// What the names of some entries mean.
+    fn meanings(&self, alloc: Global, some: &[u32]) -> Result<Vec<u32>, AllocError>
+        ensures { IfOk result (λ meanings. meanings.items ≡ map (meant self.now) some.now) }
+    {
+        let mut meanings = Vec::new(alloc);
+        for number in some {
+            meanings.push(self.meant(*number).number())?;
+        }
+        Ok(meanings)
+    }
+
+    /// What the names of some entries mean, in the order in which it was entered.
+    pub(crate) fn meant_in_order(
+        &self,
+        alloc: Global,
+        some: &[u32],
+    ) -> Result<Vec<DeclId>, AllocError>
+        ensures in_order { IfOk result (λ found. IsStrictlyIncreasing found.items) }
+        ensures all { IfOk result (λ found. (k : ℕ) → Contains found.items k ↔ IsMeant self.now (Contains some.now) k) }
+    {
+        let mut meanings = self.meanings(alloc, some)?;
+        put_in_order(&mut meanings)?;
+        let ids = ids_of(alloc, &meanings)?;
+        Ok(ids)
+    }
+}
+
 /// Whether one of these is a number.
 fn has(some: &[u32], number: u32) -> bool
     ensures { result ≡ list_any (λ k. k == number) some.now }
@@ -444,7 +500,7 @@ pub(crate) fn put_in_order(found: &mut Vec<u32>) -> Result<(), AllocError>
 }
 
 /// Numbers as declarations.
-pub(crate) fn ids_of(alloc: Global, numbers: &[u32]) -> Result<Vec<DeclId>, AllocError>
+fn ids_of(alloc: Global, numbers: &[u32]) -> Result<Vec<DeclId>, AllocError>
     ensures { IfOk result (λ ids. ids.items ≡ numbers.now) }
 {
     let mut ids = Vec::new(alloc);

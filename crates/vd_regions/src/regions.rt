@@ -6,10 +6,10 @@ ghost use Rattle.std.specs.List.Sorted.{IsStrictlyIncreasing};
 ghost use lib.ListN.{set as slice_set_at};
 ghost use Rattle.vd_regions.specs.Scopes.{Scopes, Region, Clause, region_at, declaration_at};
 ghost use Rattle.vd_regions.specs.Homographs.{homograph};
-ghost use Rattle.vd_regions.specs.Visible.{IsVisible, IsSelected};
+ghost use Rattle.vd_regions.specs.Visible.{IsVisible, IsSelected, IsMeant};
 
 use crate::entries::{Entered, Key, Link, Space, UseClause, UseClauses};
-use crate::finding::{ids_of, put_in_order};
+use crate::finding::put_in_order;
 use crate::tables::key_of;
 use indexmap::IndexMap;
 use std::alloc::{AllocError, Global};
@@ -91,11 +91,12 @@ fn owned(alloc: Global, name: Option<&str>) -> Result<Option<Text>, AllocError>
 impl Regions {
     /// The region of the libraries alone, with nothing in it.
     pub fn new(alloc: Global) -> Result<Self, AllocError>
-        ensures { IfOk result (λ regions. regions ≡ record { entered = []; regions = record { outer = 0; closed = false; uses = [] } ∷ [] }) }
+        ensures { IfOk result (λ regions. regions ≡ record { entered = []; regions = record { outer = 0; continues = None; closed = false; uses = [] } ∷ [] }) }
     {
         let mut spaces = Vec::new(alloc);
         spaces.push(Space {
             outer: 0,
+            continues: None,
             closed: false,
             uses: UseClauses::new(alloc),
         })?;
@@ -121,16 +122,53 @@ impl Regions {
         (region.number() as usize) < self.spaces.len()
     }
 
+    /// Whether a declaration was entered under this number.
+    pub fn is_declaration(&self, id: DeclId) -> bool
+        ensures { result ≡ nat_lt id (length self.now.entered) }
+    {
+        (id.number() as usize) < self.links.len()
+    }
+
     /// A new region inside another.
     pub fn nest(&mut self, outer: RegionId) -> Result<RegionId, AllocError>
         requires { outer < length self.old.regions }
         ensures nested { IfOk result (λ region. (region ≡ length self.old.regions)
-            × (self.new ≡ record self.old { regions = self.old.regions ++ record { outer = outer; closed = false; uses = [] } ∷ [] })) }
+            × (self.new ≡ record self.old { regions = self.old.regions ++ record { outer = outer; continues = None; closed = false; uses = [] } ∷ [] })) }
+        ensures unchanged { OnErr result (self.new ≡ self.old) }
+    {
+        self.add_region(outer, None)
+    }
+
+    /// A new region inside another, which continues a region: that of an architecture body or a package body, which continues the one of
+    /// its declaration.
+    pub fn nest_body(
+        &mut self,
+        outer: RegionId,
+        declaration: RegionId,
+    ) -> Result<RegionId, AllocError>
+        requires outer_in { outer < length self.old.regions }
+        requires declaration_in { declaration < length self.old.regions }
+        ensures nested { IfOk result (λ region. (region ≡ length self.old.regions)
+            × (self.new ≡ record self.old { regions = self.old.regions ++ record { outer = outer; continues = Some declaration; closed = false; uses = [] } ∷ [] })) }
+        ensures unchanged { OnErr result (self.new ≡ self.old) }
+    {
+        self.add_region(outer, Some(declaration.number()))
+    }
+
+    // A new region.
+    fn add_region(
+        &mut self,
+        outer: RegionId,
+        continues: Option<u32>,
+    ) -> Result<RegionId, AllocError>
+        ensures nested { IfOk result (λ region. (region ≡ length self.old.regions)
+            × (self.new ≡ record self.old { regions = self.old.regions ++ record { outer = outer; continues = continues; closed = false; uses = [] } ∷ [] })) }
         ensures unchanged { OnErr result (self.new ≡ self.old) }
     {
         let region = narrow(self.spaces.len())?;
         self.spaces.push(Space {
             outer: outer.number(),
+            continues,
             closed: false,
             uses: UseClauses::new(self.alloc),
         })?;
@@ -190,10 +228,10 @@ impl Regions {
         ensures taken { (id : ℕ) → result ≡ Err (EnterEnd.Homograph id) → homograph self.old region declared ≡ Some id }
         ensures unchanged { OnErr result (self.new ≡ self.old) }
     {
-        let key = key_of(self.alloc, region.number(), name.as_bytes())?;
-        if let Some(first) = self.first_clash(&key, &declared) {
+        if let Some(first) = self.first_clash(region.number(), &declared)? {
             return Err(EnterEnd::Homograph(DeclId::of(first)));
         }
+        let key = key_of(self.alloc, region.number(), name.as_bytes())?;
         let before = self.newest(&key);
         let id = narrow(self.links.len())?;
         if id == u32::MAX {
@@ -215,7 +253,7 @@ impl Regions {
         }
     }
 
-    /// What is visible in a region by its name, in the order in which it was entered.
+    /// What is visible in a region under a name, in the order in which it was entered.
     pub fn visible(
         &self,
         alloc: Global,
@@ -223,7 +261,7 @@ impl Regions {
         name: &str,
     ) -> Result<Vec<DeclId>, AllocError>
         ensures in_order { IfOk result (λ found. IsStrictlyIncreasing found.items) }
-        ensures all { IfOk result (λ found. (k : ℕ) → Contains found.items k ↔ IsVisible self.now region name.now k) }
+        ensures all { IfOk result (λ found. (k : ℕ) → Contains found.items k ↔ IsMeant self.now (IsVisible self.now region name.now) k) }
     {
         let regions = self.chain(alloc, region.number())?;
         let mut key = key_of(alloc, 0, name.as_bytes())?;
@@ -235,8 +273,7 @@ impl Regions {
         let mut found = Vec::new(alloc);
         self.add_direct(alloc, &mut key, &regions, &mut found)?;
         self.add_by_use(&around, &given, &mut found)?;
-        put_in_order(&mut found)?;
-        let ids = ids_of(alloc, &found)?;
+        let ids = self.meant_in_order(alloc, &found)?;
         Ok(ids)
     }
 
@@ -250,7 +287,7 @@ impl Regions {
         name: &str,
     ) -> Result<Vec<DeclId>, AllocError>
         ensures in_order { IfOk result (λ found. IsStrictlyIncreasing found.items) }
-        ensures all { IfOk result (λ found. (k : ℕ) → Contains found.items k ↔ IsSelected self.now place prefix name.now k) }
+        ensures all { IfOk result (λ found. (k : ℕ) → Contains found.items k ↔ IsMeant self.now (IsSelected self.now place prefix name.now) k) }
     {
         let mut found = Vec::new(alloc);
         self.add_selected(
@@ -260,8 +297,7 @@ impl Regions {
             name.as_bytes(),
             &mut found,
         )?;
-        put_in_order(&mut found)?;
-        let ids = ids_of(alloc, &found)?;
+        let ids = self.meant_in_order(alloc, &found)?;
         Ok(ids)
     }
 }

@@ -2,10 +2,9 @@
 
 ghost use Rattle.std.specs.Prelude.{◌≡◌, ◌<◌, ◌≤◌, ◌∷◌, ◌++◌, ◌&&◌, ℕ, [], OnOk, OnErr, IfOk, Ok, Err, Some, None, true, false, length, map, not, if◌then◌else◌};
 ghost use Rattle.std.specs.Option.{option_or};
-ghost use Rattle.vd_declarations.specs.Classes.{is_overloadable, takes_place_of, are_copies};
-ghost use Rattle.vd_regions.specs.Scopes.{Scopes, region_at, declaration_at, stands_in};
-ghost use Rattle.vd_regions.specs.Homographs.{same_type, same_types, same_profile, apart, may_stand_beside, homograph, type_of};
-ghost use Rattle.vd_regions.specs.Found.{entered_in};
+ghost use Rattle.vd_regions.specs.Scopes.{region_at, declaration_at, stands_in};
+ghost use Rattle.vd_regions.specs.Homographs.{same_type, same_types, same_profile, apart, takes_place_of, are_copies, name_one_library, may_stand_beside, homograph, type_of};
+ghost use Rattle.vd_regions.specs.Found.{first_in, earlier};
 ghost use Rattle.vd_regions.specs.Links.{newest_below};
 
 use crate::entries::{Entered, Key, Link};
@@ -13,36 +12,28 @@ use crate::regions::{EnterEnd, Regions, narrow};
 use std::alloc::{AllocError, Global};
 use vd_declarations::{Class, DeclId, Declaration, RegionId, TypeId};
 
-/// Whether several declarations of this class may have one name.
-pub(crate) fn is_overloadable(class: Class) -> bool
-    ensures { result ≡ is_overloadable class }
-{
-    matches!(
-        class,
-        Class::EnumerationLiteral
-            | Class::Function
-            | Class::GenericFunction
-            | Class::InstanceFunction
-            | Class::PredefinedOperator
-    )
-}
-
 /// Whether a declaration of the first class takes the place of one of the second.
 pub(crate) fn takes_place_of(class: Class, old: Class) -> bool
     ensures { result ≡ takes_place_of class old }
 {
-    matches!(old, Class::PredefinedOperator)
-        && matches!(
-            class,
-            Class::Function | Class::GenericFunction | Class::InstanceFunction
-        )
+    class.is_function() && old.is_predefined()
 }
 
 /// Whether both are functions of an instance.
 fn are_copies(class: Class, old: Class) -> bool
     ensures { result ≡ are_copies class old }
 {
-    matches!(class, Class::InstanceFunction) && matches!(old, Class::InstanceFunction)
+    class.is_copy() && old.is_copy()
+}
+
+/// Whether both are names of one library.
+fn name_one_library(class: Class, old: Class) -> bool
+    ensures { result ≡ name_one_library class old }
+{
+    match (class.library(), old.library()) {
+        (Some(one), Some(other)) => one.number() == other.number(),
+        _ => false,
+    }
 }
 
 /// The types are the same, or there is none on either side.
@@ -123,8 +114,8 @@ impl Regions {
     pub(crate) fn are_apart(&self, one: &Declaration, other: &Declaration) -> bool
         ensures { result ≡ apart self.now one.now other.now }
     {
-        is_overloadable(one.class)
-            && is_overloadable(other.class)
+        one.class.is_overloadable()
+            && other.class.is_overloadable()
             && !self.have_same_profile(one, other)
     }
 
@@ -134,13 +125,35 @@ impl Regions {
     {
         takes_place_of(new.class, old.class)
             || are_copies(new.class, old.class)
+            || name_one_library(new.class, old.class)
             || self.are_apart(old, new)
     }
 
+    /// The first declaration of a region, or of what it continues, beside which a new one may not stand.
+    #[tactic(auto, using(crate::proofs::HomographLemmas::in_one_region, crate::proofs::HomographLemmas::in_two_regions))]
+    pub(crate) fn first_clash(
+        &self,
+        region: u32,
+        new: &Declaration,
+    ) -> Result<Option<u32>, AllocError>
+        ensures { IfOk result (λ first. first ≡ homograph self.now region new.now) }
+    {
+        let mut key = key_of(self.alloc, region, new.name.as_slice())?;
+        let here = self.first_in_table(&key, new);
+        match self.continues(region) {
+            None => Ok(here),
+            Some(declaration) => {
+                key.region = declaration;
+                let there = self.first_in_table(&key, new);
+                Ok(earlier(here, there))
+            }
+        }
+    }
+
     /// The first declaration of a table beside which a new one may not stand.
-    pub(crate) fn first_clash(&self, key: &Key, new: &Declaration) -> Option<u32>
+    fn first_in_table(&self, key: &Key, new: &Declaration) -> Option<u32>
         requires { key.now.name.items ≡ new.now.name }
-        ensures { result ≡ homograph self.now key.now.region new.now }
+        ensures { result ≡ first_in self.now key.now.region new.now }
     {
         let mut found = None;
         let mut left = self.newest(key);
@@ -154,6 +167,17 @@ impl Regions {
             left = link.before;
         }
         found
+    }
+}
+
+// The earlier of two declarations.
+fn earlier(one: Option<u32>, other: Option<u32>) -> Option<u32>
+    ensures { result ≡ earlier one other }
+{
+    match (one, other) {
+        (Some(one), Some(other)) => Some(one.min(other)),
+        (Some(one), None) => Some(one),
+        (None, other) => other,
     }
 }
 

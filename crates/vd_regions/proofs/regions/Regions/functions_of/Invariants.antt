@@ -1,7 +1,7 @@
 use Rattle.std.proofs.Common.{◌≡◌, ◌++◌, drop}
 use Rattle.std.specs.List.{filter}
 use Rattle.vd_regions.specs.Scopes.{declaration_at}
-use Rattle.vd_regions.specs.Found.{is_function}
+use Rattle.vd_declarations.specs.Classes.{is_function}
 use Rattle.vd_regions.proofs.regions.Regions.functions_of.Given as goal
 
 abbrev pub invariant-loop-number : goal.invariant-loop-number

@@ -1,6 +1,8 @@
 use Rattle.std.proofs.Common.{◌≡◌, ◌++◌, sym, ap, subst, ◌∙◌}
 use Rattle.std.specs.List.{Contains}
 use Rattle.vd_regions.specs.Found.{selected_from}
+use Rattle.vd_regions.specs.Visible.{IsSelected, IsMeant}
+use Rattle.vd_regions.proofs.MeaningLemmas.{meant_of}
 use Rattle.vd_regions.proofs.VisibleLemmas.{from_selected, in_selected}
 use Rattle.vd_regions.proofs.regions.Regions.selected.Goals as goal
 
@@ -13,9 +15,11 @@ returns-clause-all c = λ k.
     ∙ ap (λ p. selected_from s p c.number-2.result c.as_bytes.result.now) c.number.ensures
     ∙ ap (λ p. selected_from s c.args.place p c.as_bytes.result.now) c.number-2.ensures
     ∙ ap (selected_from s c.args.place c.args.prefix) c.as_bytes.ensures.value in
-    let ids : c.in_ok-ids.ids.items ≡ c.put_in_order.new.found.items = c.in_ok-ids.ensures ∙ c.deref.ensures.value in
-    let both = c.in_ok-put_in_order.ensures.same k in (
-      λ m. from_selected s c.args.place c.args.prefix c.args.name.now k (subst (λ xs. Contains xs k) found (both.0 (subst (λ xs. Contains xs k) ids m))),
-      λ seen. subst (λ xs. Contains xs k) (sym ids) (both.1 (subst (λ xs. Contains xs k) (sym found)
-          (in_selected s c.args.place c.args.prefix c.args.name.now k seen))),
+    let seen = c.in_ok-ids.ensures.all k in (
+      λ m. meant_of s (Contains c.add_selected.new.found.items) (IsSelected s c.args.place c.args.prefix c.args.name.now)
+          (λ j found_j. from_selected s c.args.place c.args.prefix c.args.name.now j (subst (λ xs. Contains xs j) found found_j))
+          k (subst (λ xs. IsMeant s (Contains xs) k) c.deref.ensures.value (seen.0 m)),
+      λ is. seen.1 (subst (λ xs. IsMeant s (Contains xs) k) (sym c.deref.ensures.value)
+          (meant_of s (IsSelected s c.args.place c.args.prefix c.args.name.now) (Contains c.add_selected.new.found.items)
+          (λ j seen_j. subst (λ xs. Contains xs j) (sym found) (in_selected s c.args.place c.args.prefix c.args.name.now j seen_j)) k is)),
     )

@@ -13,12 +13,12 @@ returns-clause-used c =
     written_at _ c.self.inside.spaces.items c.args.self.now c.args.region c.number-2.result c.index_mut.result.now _
     (λ r. record r { uses = r.uses ++ record { from = c.args.from; name = option_map (λ n. n.now) c.args.name } ∷ [] })
     c.self.view_is c.requires c.number-2.ensures c.index_mut.ensures.value
-    (ap (λ us. let r : Region = record { outer = c.index_mut.result.now.outer; closed = c.index_mut.result.now.closed; uses = us } in r) uses)
+    (ap (λ us. let r : Region = record { outer = c.index_mut.result.now.outer; continues = c.index_mut.result.now.continues; closed = c.index_mut.result.now.closed; uses = us } in r) uses)
 
 pub returns-in_err-push-clause-unchanged : goal.returns-in_err-push-clause-unchanged
 returns-in_err-push-clause-unchanged c =
     let same = rewritten_at _ c.self.inside.spaces.items c.args.self.now c.args.region c.number-2.result c.index_mut.result.now _
     c.self.view_is c.requires c.number-2.ensures c.index_mut.ensures.value
-    (ap (λ us. let r : Region = record { outer = c.index_mut.result.now.outer; closed = c.index_mut.result.now.closed; uses = us } in r)
+    (ap (λ us. let r : Region = record { outer = c.index_mut.result.now.outer; continues = c.index_mut.result.now.continues; closed = c.index_mut.result.now.closed; uses = us } in r)
     c.in_err-push.ensures.unchanged) in
     on_err c.from_residual-in_err-push.result same

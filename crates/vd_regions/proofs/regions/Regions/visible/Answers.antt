@@ -2,7 +2,8 @@ use Rattle.std.proofs.Common.{◌≡◌, ◌++◌, [], ℕ, sym, ap, subst, ◌�
 use Rattle.std.specs.List.{Contains}
 use Rattle.vd_regions.specs.Scopes.{chain}
 use Rattle.vd_regions.specs.Found.{round, direct_from, given, by_use_among}
-use Rattle.vd_regions.specs.Visible.{IsGiven}
+use Rattle.vd_regions.specs.Visible.{IsGiven, IsVisible, IsMeant}
+use Rattle.vd_regions.proofs.MeaningLemmas.{meant_of}
 use Rattle.vd_regions.proofs.VisibleLemmas.{from_visible, in_visible, from_given, in_given}
 use Rattle.vd_regions.proofs.regions.Regions.visible.Goals as goal
 
@@ -37,8 +38,11 @@ returns-clause-all c = λ k.
     ∙ ap (λ xs. xs ++ by_use_among s c.deref-4.result.now c.deref-5.result.now) direct
     ∙ ap (λ xs. direct_from s name [] (chain s region) ++ by_use_among s xs c.deref-5.result.now) around
     ∙ ap (λ xs. direct_from s name [] (chain s region) ++ by_use_among s (round s name (chain s region)) xs) c.deref-5.ensures.value in
-    let ids : c.in_ok-ids.ids.items ≡ c.put_in_order-2.new.found.items = c.in_ok-ids.ensures ∙ c.deref-6.ensures.value in
-    let both = c.in_ok-put_in_order-2.ensures.same k in (
-      λ m. from_visible s name region ks has all k (subst (λ xs. Contains xs k) found (both.0 (subst (λ xs. Contains xs k) ids m))),
-      λ seen. subst (λ xs. Contains xs k) (sym ids) (both.1 (subst (λ xs. Contains xs k) (sym found) (in_visible s name region ks has all k seen))),
+    let seen = c.in_ok-ids.ensures.all k in (
+      λ m. meant_of s (Contains c.add_by_use.new.found.items) (IsVisible s region name)
+          (λ j found_j. from_visible s name region ks has all j (subst (λ xs. Contains xs j) found found_j))
+          k (subst (λ xs. IsMeant s (Contains xs) k) c.deref-6.ensures.value (seen.0 m)),
+      λ is. seen.1 (subst (λ xs. IsMeant s (Contains xs) k) (sym c.deref-6.ensures.value)
+          (meant_of s (IsVisible s region name) (Contains c.add_by_use.new.found.items)
+          (λ j seen_j. subst (λ xs. Contains xs j) (sym found) (in_visible s name region ks has all j seen_j)) k is)),
     )

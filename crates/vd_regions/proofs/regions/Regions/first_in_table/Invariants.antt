@@ -4,7 +4,7 @@ use Rattle.vd_regions.specs.Scopes.{stands_in}
 use Rattle.vd_regions.specs.Homographs.{may_stand_beside}
 use Rattle.vd_regions.specs.Links.{newest_below}
 use Rattle.vd_regions.proofs.LinkLemmas.{first_below}
-use Rattle.vd_regions.proofs.regions.Regions.first_clash.Given as goal
+use Rattle.vd_regions.proofs.regions.Regions.first_in_table.Given as goal
 
 abbrev pub invariant-loop-left : goal.invariant-loop-left
 invariant-loop-left l = record {

@@ -2,11 +2,12 @@ use Rattle.std.proofs.Common.{◌≡◌, ◌-◌, ◌&&◌, suc, not, length, if
 use Rattle.std.specs.Option.{option_or}
 use Rattle.vd_regions.specs.declared.entries.Entered.{Entered}
 use Rattle.vd_regions.specs.Scopes.{Scopes, stands_in}
-use Rattle.vd_regions.specs.Homographs.{may_stand_beside, clashes}
+use Rattle.vd_regions.specs.Homographs.{may_stand_beside}
 use Rattle.vd_regions.specs.Links.{newest_below}
+use Rattle.vd_regions.specs.Found.{clashes_in}
 use Rattle.vd_regions.proofs.LinkLemmas.{IsLink, GoesOn, link_in, goes_on, first_below, first_step, first_skip, position_below, option_or_none, newest_small, newest_again}
-use Rattle.vd_regions.proofs.regions.Regions.first_clash.Goals as goal
-use Rattle.vd_regions.proofs.regions.Regions.first_clash.Goals.{After-or_at-found}
+use Rattle.vd_regions.proofs.regions.Regions.first_in_table.Goals as goal
+use Rattle.vd_regions.proofs.regions.Regions.first_in_table.Goals.{After-or_at-found}
 
 pub loop-left-init : goal.loop-left-init
 loop-left-init c =
@@ -66,4 +67,4 @@ returns c =
     ∙ c.loop-left.invariant.same
     ∙ ap (λ name. first_below (λ e. stands_in c.args.key.now.region name e
     && not (may_stand_beside c.args.self.now e.declaration c.args.new.now)) es (length es)) c.requires
-    ∙ sym (position_below (clashes c.args.self.now c.args.key.now.region c.args.new.now) es)
+    ∙ sym (position_below (clashes_in c.args.self.now c.args.key.now.region c.args.new.now) es)

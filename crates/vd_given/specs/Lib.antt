@@ -1,0 +1,6 @@
+pub mod Entries
+pub mod Lines
+pub mod Table
+pub mod Seen
+pub mod Operators
+pub mod Given

@@ -1,0 +1,4 @@
+pub mod Codes
+pub mod Stacks
+pub mod Trees
+pub mod Validity
