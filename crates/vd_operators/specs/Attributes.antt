@@ -1,5 +1,5 @@
 -- Attributes of arrays, of scalar subtypes and of discrete types. (IEEE 1076-2019, 16.2; IEEE 1076-1993, 14.1.)
-use Rattle.std.specs.Prelude.{ℤ, pos, ◌+ℤ◌, ◌-ℤ◌, Bool, Option, Some, None, Ok, if◌then◌else◌}
+use Rattle.std.specs.Prelude.{ℤ, pos, ◌+ℤ◌, ◌-ℤ◌, int_le, Bool, Option, Some, None, Ok, if◌then◌else◌}
 use Rattle.vd_values.specs.declared.scalar.Scalar.{Scalar}
 use Rattle.vd_values.specs.declared.scalar.Scalar.TheVariants.{Integer as OfInteger}
 use Rattle.vd_integers.specs.Integers.{integer_of}
@@ -7,7 +7,7 @@ use Rattle.vd_composites.specs.declared.ranges.Bounds.{Bounds}
 use Rattle.vd_composites.specs.declared.scalars.ScalarType.{ScalarType}
 use Rattle.vd_composites.specs.declared.scalars.ScalarSubtype.{ScalarSubtype}
 use Rattle.vd_composites.specs.Stops.{OrStop, ◌>>=◌}
-use Rattle.vd_composites.specs.Ranges.{length_of, low_of, high_of, reversed}
+use Rattle.vd_composites.specs.Ranges.{length_of, reversed}
 use Rattle.vd_composites.specs.Scalars.{position_of, value_at}
 use Rattle.vd_composites.specs.Composites.{Value, One, bounds_of, scalar_of}
 use Rattle.vd_vectors.specs.Logics.{or_misshapen}
@@ -17,11 +17,13 @@ use Rattle.vd_operators.specs.declared.attributes.Side.TheVariants.{LeftSide, Ri
 use Rattle.vd_operators.specs.declared.attributes.DiscreteAttribute.{DiscreteAttribute}
 use Rattle.vd_operators.specs.declared.attributes.DiscreteAttribute.TheVariants.{Position, ValueAt, Successor, Predecessor}
 
+-- The smaller of both bounds of a range is its lower bound and the larger the upper one, also where it is null. (IEEE 1076-2019, 5.2.1;
+-- IEEE 1076-1993, 3.1.)
 abbrev pub side_of : Side → Bounds → ℤ
 side_of LeftSide b = b.left
 side_of RightSide b = b.right
-side_of HighSide b = high_of b
-side_of LowSide b = low_of b
+side_of HighSide b = if int_le b.left b.right then b.right else b.left
+side_of LowSide b = if int_le b.left b.right then b.left else b.right
 
 abbrev pub scalar_value : OrStop Scalar → OrStop (Value Scalar)
 scalar_value g = g >>= λ x. Ok (One x)

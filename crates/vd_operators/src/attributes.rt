@@ -38,9 +38,11 @@ pub enum DiscreteAttribute {
 fn side_bound(side: Side, bounds: Bounds) -> i64
     ensures { result ≡ side_of side bounds }
 {
-    match (side, bounds.down) {
-        (Side::LeftSide, _) | (Side::HighSide, true) | (Side::LowSide, false) => bounds.left,
-        (Side::RightSide, _) | (Side::HighSide, false) | (Side::LowSide, true) => bounds.right,
+    match side {
+        Side::LeftSide => bounds.left,
+        Side::RightSide => bounds.right,
+        Side::HighSide => bounds.left.max(bounds.right),
+        Side::LowSide => bounds.left.min(bounds.right),
     }
 }
 
