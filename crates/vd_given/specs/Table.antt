@@ -83,7 +83,7 @@ operators_in group.Matching =
     two (codes "?=") operand.Own operand.Own outcome.Own ∷
     two (codes "?/=") operand.Own operand.Own outcome.Own ∷
     []
--- matching order, of BIT.
+-- matching order, of scalars.
 operators_in group.MatchingOrder =
     two (codes "?<") operand.Own operand.Own outcome.Own ∷
     two (codes "?<=") operand.Own operand.Own outcome.Own ∷
@@ -94,6 +94,13 @@ operators_in group.MatchingOrder =
 operators_in group.ArrayMatching =
     two (codes "?=") operand.Own operand.Own outcome.Element ∷
     two (codes "?/=") operand.Own operand.Own outcome.Element ∷
+    []
+-- matching order, of arrays.
+operators_in group.ArrayMatchingOrder =
+    two (codes "?<") operand.Own operand.Own outcome.Element ∷
+    two (codes "?<=") operand.Own operand.Own outcome.Element ∷
+    two (codes "?>") operand.Own operand.Own outcome.Element ∷
+    two (codes "?>=") operand.Own operand.Own outcome.Element ∷
     []
 -- logical operators between an array and a value of its element type.
 operators_in group.MixedLogic =
@@ -214,7 +221,8 @@ standard_operators =
     row Only2019 (function Brought (codes "to_string") (codes "value") INTEGER STRING) ∷
     []
 
--- ---- ieee.std_logic_1164
+-- ---- ieee.std_logic_1164. The matching order of STD_ULOGIC and of its vectors is no part of the profile. It is visible all the same, so that a call of it
+-- is found, and refused as what it is.
 
 unfoldable pub logic_types : List GivenRow
 logic_types =
@@ -234,8 +242,8 @@ logic_operators =
     row Both (operators Brought STD_ULOGIC None (group.Equality ∷ group.Order ∷ [])) ∷
     row Both (operators Brought STD_ULOGIC_VECTOR (Some STD_ULOGIC) (group.Equality ∷ group.Order ∷ group.Joining ∷ [])) ∷
     row Only1993 (operators Brought STD_LOGIC_VECTOR (Some STD_ULOGIC) (group.Equality ∷ group.Order ∷ group.Joining ∷ [])) ∷
-    row Only2019 (operators Brought STD_ULOGIC None (group.Matching ∷ [])) ∷
-    row Only2019 (operators Brought STD_ULOGIC_VECTOR (Some STD_ULOGIC) (group.ArrayMatching ∷ [])) ∷
+    row Only2019 (operators Brought STD_ULOGIC None (group.Matching ∷ group.MatchingOrder ∷ [])) ∷
+    row Only2019 (operators Brought STD_ULOGIC_VECTOR (Some STD_ULOGIC) (group.ArrayMatching ∷ group.ArrayMatchingOrder ∷ [])) ∷
     row Only2019 (function Brought (codes "to_string") (codes "value") STD_ULOGIC STRING) ∷
     row Only2019 (function Brought (codes "to_string") (codes "value") STD_ULOGIC_VECTOR STRING) ∷
     row Both (operators Declared STD_ULOGIC None (group.Logic1164 ∷ [])) ∷

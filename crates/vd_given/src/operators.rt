@@ -43,6 +43,7 @@ pub enum Group {
     Matching,
     MatchingOrder,
     ArrayMatching,
+    ArrayMatchingOrder,
     MixedLogic,
     Reductions,
     Logic1164,
@@ -141,7 +142,7 @@ const MATCHING: &[Operator] = operators! {
     "\"?/=\"" Own OWN => Own;
 };
 
-/// Matching order, of BIT.
+/// Matching order, of scalars.
 const MATCHING_ORDER: &[Operator] = operators! {
     "\"?<\"" Own OWN => Own;
     "\"?<=\"" Own OWN => Own;
@@ -153,6 +154,14 @@ const MATCHING_ORDER: &[Operator] = operators! {
 const ARRAY_MATCHING: &[Operator] = operators! {
     "\"?=\"" Own OWN => Element;
     "\"?/=\"" Own OWN => Element;
+};
+
+/// Matching order, of arrays.
+const ARRAY_MATCHING_ORDER: &[Operator] = operators! {
+    "\"?<\"" Own OWN => Element;
+    "\"?<=\"" Own OWN => Element;
+    "\"?>\"" Own OWN => Element;
+    "\"?>=\"" Own OWN => Element;
 };
 
 /// Logical operators between an array and a value of its element type.
@@ -220,6 +229,7 @@ pub(crate) fn operators_in(group: Group) -> &'static [Operator]
         Group::Matching => MATCHING,
         Group::MatchingOrder => MATCHING_ORDER,
         Group::ArrayMatching => ARRAY_MATCHING,
+        Group::ArrayMatchingOrder => ARRAY_MATCHING_ORDER,
         Group::MixedLogic => MIXED_LOGIC,
         Group::Reductions => REDUCTIONS,
         Group::Logic1164 => LOGIC_1164,

@@ -157,14 +157,17 @@ const LOGIC_OPERATORS: &[Row] = &[
             &[Equality, Order, Joining],
         ),
     ),
-    Row(Only2019, Operators(Brought, STD_ULOGIC, None, &[Matching])),
+    Row(
+        Only2019,
+        Operators(Brought, STD_ULOGIC, None, &[Matching, MatchingOrder]),
+    ),
     Row(
         Only2019,
         Operators(
             Brought,
             STD_ULOGIC_VECTOR,
             Some(STD_ULOGIC),
-            &[ArrayMatching],
+            &[ArrayMatching, ArrayMatchingOrder],
         ),
     ),
     Row(
