@@ -5,3 +5,5 @@ pub mod FormNumbers
 pub mod PartLemmas
 pub mod MadeLemmas
 pub mod StandingLemmas
+pub mod ShapeLemmas
+pub mod DesignLemmas

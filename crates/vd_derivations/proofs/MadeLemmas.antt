@@ -25,7 +25,7 @@ abbrev pub planted : List (Forest Form) → Forest Form
 planted [] = nothing
 planted (x ∷ xs) = with_next x (planted xs)
 
-planted_single : (a : Forest Form) → planted (single a) ≡ a
+pub planted_single : (a : Forest Form) → planted (single a) ≡ a
 planted_single nothing = refl
 planted_single (more f t p a b) = ap (more f t p a) (planted_single b)
 

@@ -75,7 +75,7 @@ module _ (t : Table) (rows : List (List ℕ)) (actions : List Action) (standpoin
   puts_fit (Many fs ∷ []) (p ∷ ps) many a h u e of = absurd (false≢true h)
   puts_fit (Many fs ∷ s ∷ ss) ps many a h u e of = absurd (false≢true h)
 
-  all_bare : (fs : List Form) (s : ℕ) (a : Forest Form) → all_stand t rows actions standpoints f true s fs ≡ true → fits (Many fs ∷ []) (forms_of a) ≡ true → AreOf93 a
+  pub all_bare : (fs : List Form) (s : ℕ) (a : Forest Form) → all_stand t rows actions standpoints f true s fs ≡ true → fits (Many fs ∷ []) (forms_of a) ≡ true → AreOf93 a
       → AllStandBare t actions standpoints s (single a)
   all_bare fs s nothing u e of = tt
   all_bare fs s (more g t' p' b n) u e of =

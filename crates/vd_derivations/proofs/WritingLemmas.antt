@@ -45,7 +45,7 @@ module _ (f : Form) (text : List ℕ) (parts : List Written) (k : Draft) where
   bits_append [] b = refl
   bits_append (x ∷ a) b = ap (λ ls. bit_tokens x ++ ls) (bits_append a b) ∙ sym (append_assoc (bit_tokens x) (bits_tokens a) (bits_tokens b))
 
-  all_tokens : (ws : List Written) → tokens_in (all_written ws) ≡ each_tokens [] ws
+  pub all_tokens : (ws : List Written) → tokens_in (all_written ws) ≡ each_tokens [] ws
   all_tokens [] = refl
   all_tokens (w ∷ ws) = tokens_append (w AS_IT_IS) (all_written ws) ∙ ap (λ ls. tokens_in (w AS_IT_IS) ++ ls) (all_tokens ws)
 

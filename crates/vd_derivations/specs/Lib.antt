@@ -1,3 +1,4 @@
 pub mod Drafts
 pub mod Rows
 pub mod Checks
+pub mod Laws

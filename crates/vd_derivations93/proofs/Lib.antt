@@ -1,2 +1,3 @@
 pub mod Standpoints
 pub mod Checked
+pub mod ReadingLemmas

@@ -1,2 +1,4 @@
-//! Derivations of the trees of revision 1993.
+//! Derivations of the trees of revision 1993: the tokens of a design have one, and it leads back to the design.
 #![tactic(auto)]
+
+pub mod laws;

@@ -70,6 +70,7 @@ module _ (f : Form) where
     where
       there : late true ps ≡ true
       there = sym (ap (λ b. late b ps) (or_true seen)) ∙ h
+
       by_form : (b : Bool) → has_none (elim b [ true ↦ behind_heads ps | false ↦ row_in AS_IT_IS f ps ]) ≡ true
       by_form true = none_behind ps there
       by_form false = next true there
