@@ -1,5 +1,5 @@
 -- How a tree of revision 1993 is laid out in lines. Where lines end, and how far in they begin, stands in the templates.
-use Rattle.std.specs.Prelude.{ℕ, ◌+◌, ◌-◌, ◌*◌, Bool, true, false, List, [], ◌∷◌, ◌++◌, replicate, Option, Some, None, if◌then◌else◌}
+use Rattle.std.specs.Prelude.{ℕ, ◌+◌, ◌-◌, ◌*◌, Bool, true, false, List, [], ◌∷◌, replicate, Option, Some, None, if◌then◌else◌}
 use Rattle.vd_forest.specs.Forest.{Forest}
 use Rattle.vd_forms.specs.declared.form.Form.{Form}
 use Rattle.vd_tokens.specs.declared.kinds.Kind.{Kind}

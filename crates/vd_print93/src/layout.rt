@@ -82,11 +82,7 @@ fn inward(layout: Layout) -> Result<Layout, AllocError>
 }
 
 /// Writes an item, and gives where the text stands then.
-pub fn write_item(
-    out: &mut Vec<u8>,
-    layout: Layout,
-    item: Given<'_>,
-) -> Result<Layout, AllocError>
+pub fn write_item(out: &mut Vec<u8>, layout: Layout, item: Given<'_>) -> Result<Layout, AllocError>
     ensures { IfOk result (λ next. (items : List Item) → out.new.items ++ bytes_from next items
         ≡ out.old.items ++ bytes_from layout (shown (Some item.entry) ++ items)) }
 {
