@@ -1,5 +1,9 @@
 -- How a subtype lies in memory: its nodes in one list, each in front of its parts, from left to right.
-use Rattle.std.specs.Prelude.{ℕ, zero, suc, ◌+◌, List, [], ◌∷◌, Option, Some, None}
+use Rattle.std.specs.Prelude.{◌≡◌, ℕ, zero, suc, ◌+◌, List, [], ◌∷◌, length, Option, Some, None, Result, Ok, Err, Vec}
+use Rattle.std.specs.Global.{Global}
+use Rattle.vd_composites.specs.declared.ends.ValueEnd.{ValueEnd}
+use Rattle.vd_composites.specs.Stops.{OrStop}
+use Rattle.vd_composites.specs.Answers.{Ends}
 use Rattle.vd_composites.specs.declared.ranges.Bounds.{Bounds}
 use Rattle.vd_composites.specs.declared.scalars.ScalarSubtype.{ScalarSubtype}
 use Rattle.vd_composites.specs.Subtypes.{Subtype, Scalars, Arrays, Records, Subtypes, no_more, and_more}
@@ -56,3 +60,16 @@ head_in (ScalarNode s ∷ ns) = ScalarHead s
 head_in (UnboundedNode index ∷ ns) = Unbounded index
 head_in (BoundedNode index b ∷ ns) = Bounded b
 head_in (RecordNode n ∷ ns) = RecordHead n
+
+-- some subtypes one after another, and the nodes that make them
+abbrev pub subtypes_of : List Subtype → Subtypes
+subtypes_of [] = no_more
+subtypes_of (s ∷ ss) = and_more s (subtypes_of ss)
+
+abbrev pub IsNodesOf : List Subtype → List Node → Type 0
+IsNodesOf ss ns = (after (length ss) ns ≡ Some 0) × (read ns ≡ subtypes_of ss)
+
+-- the nodes of the subtype that is defined, or its stop
+abbrev pub MadeSubtype : Result (Vec Node Global) ValueEnd → OrStop Subtype → Type 0
+MadeSubtype (Ok ns) g = (after 1 ns.items ≡ Some 0) × (g ≡ Ok (subtype_in (read ns.items)))
+MadeSubtype (Err end) g = Ends end g

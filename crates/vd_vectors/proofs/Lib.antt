@@ -1,3 +1,4 @@
 mod ListLemmas
 mod PassLemmas
 mod ShiftLemmas
+mod SupportLemmas

@@ -5,3 +5,4 @@ pub mod Matching
 pub mod Orders
 pub mod Laws
 pub mod Moves
+pub mod Support

@@ -9,7 +9,7 @@ pub mod matching;
 pub mod orders;
 pub mod shifts;
 
-pub use laws::{results_are_as_long, two_values_are_bits};
+pub use laws::{results_are_as_long, support_functions_are_operators, two_values_are_bits};
 pub use logical::{LogicalOperator, logical_operation, negated, reduction};
 pub use logics::LogicType;
 pub use matching::{condition, matches};
