@@ -1,24 +1,17 @@
 -- What each token of a token list can be.
-use Rattle.std.proofs.Common.{◌≡◌, ◌≢◌, ℕ, zero, suc, ◌+◌, ◌-◌, ◌*◌, ◌/◌, ◌%◌, ◌^◌, ◌<◌, ◌≤◌, Bool, true, false, cond, eqb, leb, ltb, not, ◌&&◌, ◌||◌, List, [], ◌∷◌, ◌++◌, length, take, drop, replicate, Option, Some, None, is_none, ⊎_elim, refl, sym, ap, ◌∙◌, subst, arith}
-use Rattle.std.specs.List.{list_all, flat_map}
-use Rattle.std.specs.Prelude.{filter, decimal, slice_range}
-use Rattle.std.specs.Char.{digit_value}
+use Rattle.std.proofs.Common.{◌≡◌, ℕ, ◌+◌, Bool, true, false, cond, eqb, ◌&&◌, ◌||◌, List, [], ◌∷◌, take, drop, Option, Some, None, is_none, ⊎_elim, refl, sym, ap, ◌∙◌, subst, arith}
 use Rattle.std.specs.Str.{bytes_eq}
 use Rattle.std.proofs.Math.Numerals.{one-add}
-use Rattle.std.proofs.lemmas.Bool.{and_parts, and_from, or_cases, or_parts, or_left, or_right, cond_both, leb-true, true≢false}
+use Rattle.std.proofs.lemmas.Bool.{and_parts, and_from, or_cases, or_left, or_right, cond_both}
 use Rattle.std.proofs.lemmas.Bool.Decides.{nat_tests}
 use Rattle.std.proofs.lemmas.List.Quantifiers.{position-Some}
-use Rattle.std.proofs.lemmas.List.Folds.{list_all-append}
 use Rattle.std.proofs.lemmas.Slice.Eq.{bytes_eq-Decides}
 use Rattle.vd_trees.specs.declared.revision.Revision.{Revision}
-use Rattle.vd_trees.specs.declared.revision.Revision.TheVariants.{V2019, V1993}
 use Rattle.vd_trees.specs.Identifiers.{is_letter, is_letter_or_digit, starts_with_letter_or_digit, is_name_rest, is_name, lower, lowered, place_among, is_identifier}
 use Rattle.vd_trees.specs.Words.{reserved_words}
-use Rattle.vd_tokens.specs.declared.kinds.Kind.{Kind}
 use Rattle.vd_tokens.specs.declared.kinds.Kind.TheVariants as kind
-use Rattle.vd_tokens.specs.Marks.{marks}
-use Rattle.vd_tokens.specs.Spellings.{is_graphic, is_digit, is_bit, greatest_integer, IsTextOf, IsNumberText}
-use Rattle.vd_literals.specs.Runs.{is_part, starts_with_part, goes_on, more_length, run_length}
+use Rattle.vd_tokens.specs.Spellings.{IsTextOf}
+use Rattle.vd_literals.specs.Runs.{is_part, starts_with_part, goes_on, more_length}
 use Rattle.vd_literals.specs.Quoted.{begins_with}
 use Rattle.vd_lex.specs.Items.{Item, token, broken, name_item, word_item}
 

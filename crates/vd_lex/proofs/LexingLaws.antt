@@ -1,5 +1,5 @@
 -- A text has one lexing, and just one.
-use Rattle.std.proofs.Common.{◌≡◌, ℕ, zero, suc, ◌+◌, ◌-◌, ◌<◌, ◌≤◌, ◌⊎◌, inl, inr, List, [], ◌∷◌, ◌++◌, length, drop, Option, Some, None, refl, sym, ap, ◌∙◌, subst, arith}
+use Rattle.std.proofs.Common.{◌≡◌, ℕ, zero, suc, ◌+◌, ◌<◌, ◌⊎◌, inl, inr, List, [], ◌∷◌, ◌++◌, length, Option, Some, None, refl, sym, ap, ◌∙◌, subst, arith}
 use Rattle.std.proofs.lemmas.List.{length-drop}
 use Rattle.vd_bytes.specs.declared.places.Place.{Place}
 use Rattle.vd_trees.specs.declared.revision.Revision.{Revision}
@@ -7,7 +7,7 @@ use Rattle.vd_directives.specs.declared.selected.Line.{Line}
 use Rattle.vd_directives.specs.declared.selected.Selected.{Selected}
 use Rattle.vd_tokens.specs.Lexemes.{Lexeme}
 use Rattle.vd_lex.specs.declared.states.State.{State}
-use Rattle.vd_lex.specs.Pieces.{Piece, passes, reads, refuses, piece_at, past_line}
+use Rattle.vd_lex.specs.Pieces.{Piece, passes, reads, refuses, piece_at}
 use Rattle.vd_lex.specs.Lexis.{Position, Step, goes, breaks, ends, at_piece, at_end, at_line_end, step_at, step_by, Reads, here, further, start, end_token, IsTokenList, BreaksAt, Lexing, lexed, refused, IsLexing, HasOneLexing, HasSomeLexing}
 use Rattle.vd_lex.proofs.SizeLemmas.{PieceSome, piece_some}
 

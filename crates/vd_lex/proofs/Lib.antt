@@ -1,3 +1,4 @@
+pub mod FollowLemmas
 pub mod KindLemmas
 pub mod LexingLaws
 pub mod MarkLemmas

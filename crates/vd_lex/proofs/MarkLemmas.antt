@@ -1,25 +1,24 @@
 -- What a token's bytes are read as: texts in marks, letters, bits.
-use Rattle.std.proofs.Common.{◌≡◌, ◌≢◌, ℕ, zero, suc, ◌+◌, ◌-◌, ◌*◌, ◌/◌, ◌%◌, ◌^◌, ◌<◌, ◌≤◌, Bool, true, false, cond, eqb, leb, ltb, not, ◌&&◌, ◌||◌, List, [], ◌∷◌, ◌++◌, length, take, drop, replicate, Option, Some, None, refl, sym, ap, ◌∙◌, subst, arith, length-append}
+use Rattle.std.proofs.Common.{◌≡◌, ℕ, suc, ◌+◌, ◌-◌, ◌/◌, ◌%◌, Bool, true, false, cond, eqb, ltb, not, ◌&&◌, ◌||◌, List, [], ◌∷◌, ◌++◌, length, take, replicate, Some, None, refl, sym, ap, ◌∙◌, arith}
 use Rattle.std.specs.List.{list_all, flat_map}
-use Rattle.std.specs.Prelude.{filter, slice_range}
+use Rattle.std.specs.Prelude.{filter}
 use Rattle.std.specs.Char.{digit_value}
 use Rattle.std.proofs.Math.Seq.{take-append_seam}
-use Rattle.std.proofs.lemmas.Bool.{and_parts, and_from, or_right, cond_both, cond-true, cond-false, not-true, eqb-true, or_cases, cases_Bool}
+use Rattle.std.proofs.lemmas.Bool.{and_parts, and_from, cond-true, cond-false, not-true, eqb-true}
 use Rattle.std.proofs.lemmas.Bool.Decides.{nat_tests}
 use Rattle.vd_trees.specs.declared.revision.Revision.{Revision}
 use Rattle.vd_trees.specs.declared.revision.Revision.TheVariants.{V2019, V1993}
 use Rattle.vd_tokens.specs.declared.kinds.Kind.TheVariants as kind
 use Rattle.vd_tokens.specs.Spellings.{doubled, is_graphic, is_bit}
 use Rattle.vd_literals.specs.declared.quoted.Before.{Before}
-use Rattle.vd_literals.specs.declared.quoted.Before.TheVariants.{Start, Character, Underscore}
-use Rattle.vd_literals.specs.declared.quoted.Role.{Role}
-use Rattle.vd_literals.specs.declared.quoted.Role.TheVariants.{Stops, Ends, Goes, MayEnd, Doubled}
+use Rattle.vd_literals.specs.declared.quoted.Before.TheVariants.{Start, Character}
+use Rattle.vd_literals.specs.declared.quoted.Role.TheVariants.{Stops, Ends, Goes, MayEnd}
 use Rattle.vd_literals.specs.declared.bits.Sign.TheVariants.{Plain}
-use Rattle.vd_literals.specs.Quoted.{shifted, first_some, may_close, at_mark, at_underscore, role_of, marks_end, undoubled}
-use Rattle.vd_literals.specs.Bits.{binary, is_digit_in, elements_of, is_element, elements, is_taken, bits_text, bits_form}
+use Rattle.vd_literals.specs.Quoted.{shifted, first_some, begins_with, may_close, at_mark, at_underscore, role_of, marks_end, undoubled}
+use Rattle.vd_literals.specs.Bits.{binary, is_digit_in, elements_of, is_element, elements, is_taken, bits_text}
 use Rattle.vd_literals.proofs.QuotedLemmas.{by_role, marks_end-role}
 use Rattle.vd_literals.proofs.BitsLemmas.{takes_all}
-use Rattle.vd_lex.specs.Items.{Item, token, broken, bits_item, letter_item, quoted_item}
+use Rattle.vd_lex.specs.Items.{token, quoted_item}
 
 -- the byte goes on with a text in marks, in which underscores count or don't
 abbrev pub goes_in : Bool → ℕ → Bool
@@ -34,8 +33,8 @@ inner_role t s b bs e g =
 mark_role : (t : Bool) (s : Before) (bs : List ℕ) → may_close s ≡ true → role_of t s (34 ∷ 34 ∷ bs) ≡ MayEnd
 mark_role t s bs e = rw (e) refl
 
-last_role : (t : Bool) (s : Before) → may_close s ≡ true → role_of t s (34 ∷ []) ≡ Ends
-last_role t s e = rw (e) refl
+last_role : (t : Bool) (s : Before) (after : List ℕ) → may_close s ≡ true → begins_with 34 after ≡ false → role_of t s (34 ∷ after) ≡ Ends
+last_role t s after e f = rw (f, e) refl
 
 doubled-mark : (b : ℕ) (bs : List ℕ) → eqb b 34 ≡ true → doubled (b ∷ bs) ≡ 34 ∷ 34 ∷ doubled bs
 doubled-mark b bs e = cond-true (eqb b 34) (b ∷ b ∷ doubled bs) (b ∷ doubled bs) e ∙ ap (λ c. c ∷ c ∷ doubled bs) (eqb-true b 34 e)
@@ -50,24 +49,24 @@ one_on : (n : ℕ) → Some (1 + (n + 1)) ≡ Some (suc n + 1)
 one_on n = ap Some (omega arith)
 
 -- the text ends at its last mark
-pub whole_end : (t : Bool) (s : Before) (text : List ℕ) → may_close s ≡ true → list_all (goes_in t) text ≡ true → marks_end t s (doubled text ++ 34 ∷ []) ≡ Some (length (doubled text) + 1)
-whole_end t s [] c g = marks_end-role t s (34 ∷ []) (omega arith) ∙ ap (by_role t (34 ∷ [])) (last_role t s c)
-whole_end t s (b ∷ bs) c g =
+pub whole_end : (t : Bool) (s : Before) (text after : List ℕ) → begins_with 34 after ≡ false → may_close s ≡ true → list_all (goes_in t) text ≡ true → marks_end t s (doubled text ++ 34 ∷ after) ≡ Some (length (doubled text) + 1)
+whole_end t s [] after o c g = marks_end-role t s (34 ∷ after) (omega arith) ∙ ap (by_role t (34 ∷ after)) (last_role t s after c o)
+whole_end t s (b ∷ bs) after o c g =
     let p = and_parts (goes_in t b) (list_all (goes_in t) bs) g in
-    by (eqb b 34) refl p.0 (whole_end t Character bs refl p.1)
+    by (eqb b 34) refl p.0 (whole_end t Character bs after o refl p.1)
   where
-    by : (u : Bool) → eqb b 34 ≡ u → goes_in t b ≡ true → marks_end t Character (doubled bs ++ 34 ∷ []) ≡ Some (length (doubled bs) + 1)
-        → marks_end t s (doubled (b ∷ bs) ++ 34 ∷ []) ≡ Some (length (doubled (b ∷ bs)) + 1)
+    by : (u : Bool) → eqb b 34 ≡ u → goes_in t b ≡ true → marks_end t Character (doubled bs ++ 34 ∷ after) ≡ Some (length (doubled bs) + 1)
+        → marks_end t s (doubled (b ∷ bs) ++ 34 ∷ after) ≡ Some (length (doubled (b ∷ bs)) + 1)
     by true e h k =
-        ap (λ xs. marks_end t s (xs ++ 34 ∷ [])) (doubled-mark b bs e)
-        ∙ (marks_end-role t s (34 ∷ 34 ∷ (doubled bs ++ 34 ∷ [])) (omega arith)
-        ∙ (ap (by_role t (34 ∷ 34 ∷ (doubled bs ++ 34 ∷ []))) (mark_role t s (doubled bs ++ 34 ∷ []) c)
+        ap (λ xs. marks_end t s (xs ++ 34 ∷ after)) (doubled-mark b bs e)
+        ∙ (marks_end-role t s (34 ∷ 34 ∷ (doubled bs ++ 34 ∷ after)) (omega arith)
+        ∙ (ap (by_role t (34 ∷ 34 ∷ (doubled bs ++ 34 ∷ after))) (mark_role t s (doubled bs ++ 34 ∷ after) c)
         ∙ (ap (λ o. first_some (shifted 2 o) (Some 1)) k
         ∙ (two_on (length (doubled bs)) ∙ ap (λ xs. Some (length xs + 1)) (sym (doubled-mark b bs e))))))
     by false e h k =
-        ap (λ xs. marks_end t s (xs ++ 34 ∷ [])) (doubled-other b bs e)
-        ∙ (marks_end-role t s (b ∷ (doubled bs ++ 34 ∷ [])) (omega arith)
-        ∙ (ap (by_role t (b ∷ (doubled bs ++ 34 ∷ []))) (inner_role t s b (doubled bs ++ 34 ∷ []) e h)
+        ap (λ xs. marks_end t s (xs ++ 34 ∷ after)) (doubled-other b bs e)
+        ∙ (marks_end-role t s (b ∷ (doubled bs ++ 34 ∷ after)) (omega arith)
+        ∙ (ap (by_role t (b ∷ (doubled bs ++ 34 ∷ after))) (inner_role t s b (doubled bs ++ 34 ∷ after) e h)
         ∙ (ap (shifted 1) k
         ∙ (one_on (length (doubled bs)) ∙ ap (λ xs. Some (length xs + 1)) (sym (doubled-other b bs e))))))
 
@@ -89,20 +88,20 @@ undoubled-doubled (b ∷ bs) = by (eqb b 34) refl (undoubled-doubled bs)
 one_less : (n : ℕ) → n + 1 - 1 ≡ n
 one_less n = omega arith
 
-pub body_is : (text : List ℕ) → undoubled (take (length (doubled text) + 1 - 1) (doubled text ++ 34 ∷ [])) ≡ text
-body_is text =
-    ap (λ n. undoubled (take n (doubled text ++ 34 ∷ []))) (one_less (length (doubled text)))
-    ∙ (ap undoubled (take-append_seam (doubled text) (34 ∷ [])) ∙ undoubled-doubled text)
+pub body_is : (text after : List ℕ) → undoubled (take (length (doubled text) + 1 - 1) (doubled text ++ 34 ∷ after)) ≡ text
+body_is text after =
+    ap (λ n. undoubled (take n (doubled text ++ 34 ∷ after))) (one_less (length (doubled text)))
+    ∙ (ap undoubled (take-append_seam (doubled text) (34 ∷ after)) ∙ undoubled-doubled text)
 
 quoted_goes : (text : List ℕ) → list_all is_graphic text ≡ true → list_all (goes_in false) text ≡ true
 quoted_goes [] h = refl
 quoted_goes (b ∷ bs) h = let p = and_parts (is_graphic b) (list_all is_graphic bs) h in and_from (goes_in false b) _ (and_from (is_graphic b) true p.0 refl) (quoted_goes bs p.1)
 
 -- a text in marks is read whole
-pub quoted_whole : (text : List ℕ) → list_all is_graphic text ≡ true
-    → quoted_item (doubled text ++ 34 ∷ []) (marks_end false Start (doubled text ++ 34 ∷ [])) ≡ token (1 + (length (doubled text) + 1)) kind.Quoted text
-quoted_whole text g =
-    ap (quoted_item (doubled text ++ 34 ∷ [])) (whole_end false Start text refl (quoted_goes text g)) ∙ ap (token (1 + (length (doubled text) + 1)) kind.Quoted) (body_is text)
+pub quoted_whole : (text after : List ℕ) → begins_with 34 after ≡ false → list_all is_graphic text ≡ true
+    → quoted_item (doubled text ++ 34 ∷ after) (marks_end false Start (doubled text ++ 34 ∷ after)) ≡ token (1 + (length (doubled text) + 1)) kind.Quoted text
+quoted_whole text after o g =
+    ap (quoted_item (doubled text ++ 34 ∷ after)) (whole_end false Start text after o refl (quoted_goes text g)) ∙ ap (token (1 + (length (doubled text) + 1)) kind.Quoted) (body_is text after)
 
 -- ---- bits
 

@@ -1,7 +1,7 @@
 -- Each token of a token list can be one, and the end stands last and nowhere else.
-use Rattle.std.proofs.Common.{◌≡◌, ℕ, zero, suc, ◌+◌, ◌-◌, ◌<◌, ◌≤◌, Bool, true, false, cond, eqb, leb, ◌&&◌, ◌||◌, List, [], ◌∷◌, ◌++◌, length, take, drop, Option, Some, None, Result, Ok, Err, IfOk, refl, sym, ap, ◌∙◌, subst, arith}
-use Rattle.std.specs.List.{AllByRecursion, list_all}
-use Rattle.std.specs.Prelude.{decimal, slice_range}
+use Rattle.std.proofs.Common.{◌≡◌, ℕ, ◌+◌, ◌-◌, ◌<◌, Bool, true, false, cond, eqb, leb, ◌&&◌, List, [], ◌∷◌, ◌++◌, length, take, Option, Some, None, Result, Ok, Err, IfOk, refl, sym, subst, arith}
+use Rattle.std.specs.List.{AllByRecursion}
+use Rattle.std.specs.Prelude.{slice_range}
 use Rattle.std.specs.Str.{bytes_eq}
 use Rattle.std.proofs.lemmas.Bool.{and_parts, and_from, cond_both}
 use Rattle.std.proofs.lemmas.List.Quantifiers.{position-Some}
@@ -16,7 +16,7 @@ use Rattle.vd_tokens.specs.declared.kinds.Kind.{Kind}
 use Rattle.vd_tokens.specs.declared.kinds.Kind.TheVariants as kind
 use Rattle.vd_tokens.specs.Lexemes.{Lexeme}
 use Rattle.vd_tokens.specs.Marks.{marks}
-use Rattle.vd_tokens.specs.Spellings.{is_graphic, is_digit, IsTextOf, IsNumberText, IsPossible, EndsOnce}
+use Rattle.vd_tokens.specs.Spellings.{is_graphic, is_digit, IsTextOf, IsPossible, EndsOnce}
 use Rattle.vd_literals.specs.declared.quoted.Before.TheVariants.{Start}
 use Rattle.vd_literals.specs.declared.bits.BitsForm.{BitsForm}
 use Rattle.vd_literals.specs.declared.bits.BitsForm.TheVariants as bits
@@ -30,8 +30,8 @@ use Rattle.vd_literals.specs.Bits.{bits_form, bits_text}
 use Rattle.vd_lex.specs.declared.states.State.{State}
 use Rattle.vd_lex.specs.declared.items.First.TheVariants as first
 use Rattle.vd_lex.specs.Items.{Item, token, broken, word_item, number_item, bits_item, bits_or, sized_or, letter_item, digit_item, quoted_item, character_item, apostrophe_item, has_attribute, mark_or, mark_item, mark_front, other_item, are_angles, first_of, item_by, item_at}
-use Rattle.vd_lex.specs.Pieces.{Piece, passes, reads, refuses, checked, is_too_near, outside, inside, piece_by, piece_at, is_spacing, begins_line_comment, begins_comment, ends_comment, without_near, with_comment}
-use Rattle.vd_lex.specs.Lexis.{Position, Step, goes, breaks, ends, at_piece, at_end, at_line_end, step_by, step_at, Reads, here, further, start, end_token, IsTokenList}
+use Rattle.vd_lex.specs.Pieces.{Piece, passes, reads, refuses, checked, is_too_near, outside, piece_by, piece_at, is_spacing, begins_line_comment, begins_comment, ends_comment, without_near, with_comment}
+use Rattle.vd_lex.specs.Lexis.{Position, Step, goes, breaks, ends, at_piece, at_end, at_line_end, step_by, Reads, here, further, start, end_token, IsTokenList}
 use Rattle.vd_lex.proofs.KindLemmas.{ItemFine, word_fine}
 use Rattle.vd_lex.proofs.TextLemmas.{NumberFine, number_fine, EndFine, end_fine, all_undoubled, BodyFine, body_fine, TextFine, text_fine}
 

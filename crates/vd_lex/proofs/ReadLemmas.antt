@@ -1,5 +1,5 @@
 -- What is read of a text, piece by piece and line by line.
-use Rattle.std.proofs.Common.{◌≡◌, ℕ, true, false, eqb, zero, suc, ◌+◌, ◌-◌, ◌<◌, ◌≤◌, List, [], ◌∷◌, ◌++◌, length, drop, get_or, Option, Some, None, Result, Ok, Err, is_ok, OnOk, IfOk, IfErr, refl, sym, ap, ◌∙◌, subst, arith, append_assoc}
+use Rattle.std.proofs.Common.{◌≡◌, ℕ, true, false, eqb, suc, ◌+◌, ◌-◌, ◌<◌, ◌≤◌, List, [], ◌∷◌, ◌++◌, length, drop, get_or, Some, None, Result, Ok, Err, is_ok, OnOk, IfOk, IfErr, refl, sym, ap, ◌∙◌, subst, arith, append_assoc}
 use Rattle.std.proofs.lemmas.List.{append-nil, drop_more, drop_all}
 use Rattle.vd_bytes.specs.declared.answers.Refusal.{Refusal}
 use Rattle.vd_bytes.specs.declared.answers.Refusal.TheVariants.{Refused, Memory}
@@ -11,9 +11,9 @@ use Rattle.vd_directives.specs.Lines.{place_at, end_place}
 use Rattle.vd_tokens.specs.declared.kinds.Kind.TheVariants.{End}
 use Rattle.vd_tokens.specs.Lexemes.{Lexeme}
 use Rattle.vd_lex.specs.declared.states.State.{State}
-use Rattle.vd_lex.specs.Pieces.{Piece, passes, reads, refuses, piece_at, after, past_line, first_state}
-use Rattle.vd_lex.specs.Lexis.{Position, Step, goes, breaks, ends, moved, at_piece, at_end, step_at, Reads, here, further, start, end_token, IsTokenList, BreaksAt, IsBreakOf}
-use Rattle.vd_lex.specs.Scans.{IsPieceRead, IsRefusedBy, position, ReadsTokens, IsLineRead, IsLineBroken, IsLineRefused, IsTextRead, IsUnended}
+use Rattle.vd_lex.specs.Pieces.{Piece, passes, reads, refuses, piece_at, past_line, first_state}
+use Rattle.vd_lex.specs.Lexis.{Position, goes, breaks, moved, at_piece, at_end, step_at, Reads, here, further, start, end_token, IsTokenList, BreaksAt, IsBreakOf}
+use Rattle.vd_lex.specs.Scans.{IsPieceRead, IsRefusedBy, position, ReadsTokens, IsLineRead, IsLineRefused, IsTextRead, IsUnended}
 
 module _ (r : Revision) where
   pub reads_on : (a b c : Position) (ts us : List Lexeme) → Reads r a ts b → Reads r b us c → Reads r a (ts ++ us) c

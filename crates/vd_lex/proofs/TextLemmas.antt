@@ -1,9 +1,9 @@
 -- The texts of numbers, of texts in marks and of bits.
-use Rattle.std.proofs.Common.{◌≡◌, ℕ, zero, suc, ◌+◌, ◌-◌, ◌*◌, ◌/◌, ◌%◌, ◌^◌, ◌<◌, ◌≤◌, Bool, true, false, cond, eqb, leb, ltb, not, ◌&&◌, ◌||◌, List, [], ◌∷◌, ◌++◌, length, take, drop, replicate, Option, Some, None, refl, sym, ap, ◌∙◌, subst, arith}
+use Rattle.std.proofs.Common.{◌≡◌, ℕ, zero, suc, ◌+◌, ◌-◌, ◌*◌, ◌/◌, ◌%◌, ◌^◌, ◌<◌, ◌≤◌, Bool, true, false, cond, eqb, leb, ltb, ◌&&◌, ◌||◌, List, [], ◌∷◌, ◌++◌, length, take, drop, replicate, Option, Some, None, refl, sym, ap, ◌∙◌, subst, arith}
 use Rattle.std.specs.List.{list_all, flat_map}
 use Rattle.std.specs.Prelude.{filter, slice_range}
 use Rattle.std.specs.Char.{digit_value}
-use Rattle.std.proofs.lemmas.Bool.{and_parts, and_from, or_left, or_right, or_cases, cond_both, leb-true, eqb-true, not-true, true≢false, cases_Bool}
+use Rattle.std.proofs.lemmas.Bool.{and_parts, and_from, cond_both, leb-true, not-true, true≢false}
 use Rattle.std.proofs.lemmas.Bool.Decides.{nat_tests}
 use Rattle.std.proofs.lemmas.List.Folds.{list_all-append}
 use Rattle.vd_trees.specs.declared.revision.Revision.{Revision}
@@ -27,7 +27,7 @@ use Rattle.vd_literals.specs.declared.numbers.Exponent.TheVariants as exponent
 use Rattle.vd_literals.specs.Values.{bounded, value_of, is_below}
 use Rattle.vd_literals.specs.Numbers.{base_of, is_base, raised, number_value, item_of, with_exponent, with_form, number_form, number_at, exponent_at}
 use Rattle.vd_literals.specs.Quoted.{shifted, first_some, begins_with, may_close, is_character, at_mark, at_underscore, role_of, marks_end, undoubled}
-use Rattle.vd_literals.specs.Bits.{form_with, form_from, base_at, bits_form, binary, is_digit_in, elements_of, is_element, elements, is_taken, padded, is_cut_of, cut, sized, bits_text}
+use Rattle.vd_literals.specs.Bits.{form_from, base_at, bits_form, binary, is_digit_in, elements_of, is_element, elements, is_taken, padded, is_cut_of, cut, sized, bits_text}
 use Rattle.vd_literals.proofs.QuotedLemmas.{by_role, marks_end-role}
 
 -- ---- numbers

@@ -10,7 +10,6 @@ use Rattle.vd_tokens.specs.declared.kinds.Kind.TheVariants as kind
 use Rattle.vd_tokens.specs.Marks.{marks}
 use Rattle.vd_tokens.specs.Spellings.{is_digit, is_graphic}
 use Rattle.vd_literals.specs.declared.quoted.Before.TheVariants.{Start}
-use Rattle.vd_literals.specs.declared.bits.Sign.{Sign}
 use Rattle.vd_literals.specs.declared.bits.BitsForm.{BitsForm}
 use Rattle.vd_literals.specs.declared.bits.BitsForm.TheVariants as bits
 use Rattle.vd_literals.specs.declared.numbers.NumberItem.{NumberItem}

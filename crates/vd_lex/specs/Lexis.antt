@@ -8,7 +8,6 @@ use Rattle.vd_trees.specs.declared.revision.Revision.{Revision}
 use Rattle.vd_directives.specs.declared.selected.Line.{Line}
 use Rattle.vd_directives.specs.declared.selected.Selected.{Selected}
 use Rattle.vd_directives.specs.Lines.{place_at, end_place}
-use Rattle.vd_tokens.specs.declared.kinds.Kind.{Kind}
 use Rattle.vd_tokens.specs.declared.kinds.Kind.TheVariants.{End}
 use Rattle.vd_tokens.specs.Lexemes.{Lexeme}
 use Rattle.vd_lex.specs.declared.states.State.{State}

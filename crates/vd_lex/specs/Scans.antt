@@ -1,5 +1,5 @@
 -- Words for the lexer's own functions: what a call reads, and what it leaves.
-use Rattle.std.specs.Prelude.{◌≡◌, ℕ, List, [], ◌∷◌, ◌++◌, Option, Some, None}
+use Rattle.std.specs.Prelude.{◌≡◌, ℕ, List, [], ◌∷◌, ◌++◌, Some}
 use Rattle.vd_bytes.specs.declared.answers.Refusal.{Refusal}
 use Rattle.vd_bytes.specs.declared.answers.Refusal.TheVariants.{Refused, Memory}
 use Rattle.vd_bytes.specs.declared.places.Place.{Place}
@@ -10,7 +10,7 @@ use Rattle.vd_directives.specs.Lines.{place_at}
 use Rattle.vd_tokens.specs.Lexemes.{Lexeme}
 use Rattle.vd_lex.specs.declared.states.State.{State}
 use Rattle.vd_lex.specs.Pieces.{Piece, passes, reads, refuses, after}
-use Rattle.vd_lex.specs.Lexis.{Position, Reads, Step, breaks, step_at, start}
+use Rattle.vd_lex.specs.Lexis.{Position, Reads, breaks, step_at, start}
 
 -- a piece of n bytes was read at a place
 abbrev pub IsPieceRead : Piece → Place → ℕ → State → List Lexeme → List Lexeme → Type 0

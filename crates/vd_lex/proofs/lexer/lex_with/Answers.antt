@@ -1,9 +1,6 @@
-use Rattle.std.proofs.Common.{◌≡◌, ◌+◌, ◌++◌, ◌∷◌, ◌<◌, ◌≤◌, [], sym, subst, ap, ◌∙◌, length, get_or, drop, Result, Ok, Err, IfOk, IfErr}
+use Rattle.std.proofs.Common.{◌≡◌, ◌+◌, ◌<◌, ◌≤◌, subst, length, get_or, drop}
 use Rattle.std.proofs.lemmas.Result.{err_from_is_err_and}
-use Rattle.vd_tokens.specs.declared.kinds.Kind.TheVariants.{End}
-use Rattle.vd_lex.specs.Lexis.{IsTokenList, IsBreakOf}
-use Rattle.vd_lex.specs.Scans.{IsTextRead, IsLineRead, IsLineRefused}
-use Rattle.vd_lex.specs.Pieces.{first_state}
+use Rattle.vd_lex.specs.Scans.{IsLineRead, IsLineRefused}
 use Rattle.vd_lex.proofs.ReadLemmas.{text_start, text_line, text_refused, lines_more, lines_all, finished, unfinished}
 use Rattle.vd_lex.proofs.lexer.lex_with.Goals as goal
 

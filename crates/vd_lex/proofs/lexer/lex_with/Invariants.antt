@@ -1,4 +1,4 @@
-use Rattle.std.proofs.Common.{◌≡◌, drop}
+use Rattle.std.proofs.Common.{drop}
 use Rattle.vd_lex.specs.Scans.{IsTextRead}
 use Rattle.vd_lex.proofs.lexer.lex_with.Given as goal
 

@@ -1,0 +1,4 @@
+pub mod GraphicLemmas
+pub mod LineLemmas
+pub mod NeighbourLemmas
+pub mod ReadLemmas

@@ -1,0 +1,4 @@
+pub mod HeadLemmas
+pub mod PendingLemmas
+pub mod StartLemmas
+pub mod TableLemmas
