@@ -9,7 +9,15 @@ use Rattle.vd_gram.specs.Same.{AreSameProductions, IsSameGrammar, SaysTheSame}
 use Rattle.vd_gram.proofs.SameLemmas.{say_the_same}
 use Rattle.vd_gram.proofs.UniqueLemmas.{one_unplaced, shallow_depth}
 use Rattle.vd_gram.proofs.FrontLemmas.{deep_there}
-use Rattle.vd_derivations93.specs.Depths.{IsText, HasParse, bounded_depth, IsDepth, IsBetween}
+use Rattle.vd_tokens.specs.Lexemes.{Lexeme}
+use Rattle.vd_forest.specs.Forest.{Forest}
+use Rattle.vd_forms.specs.declared.form.Form.{Form}
+use Rattle.vd_shapes.specs.declared.actions.Action.{Action}
+use Rattle.vd_shapes.specs.Reading.{symbols_in}
+use Rattle.vd_templates.specs.Templates.{tokens_of}
+use Rattle.vd_derivations.specs.Laws.{AreDerived}
+use Rattle.vd_grammar93.specs.Grammar.{grammar}
+use Rattle.vd_derivations93.specs.Depths.{IsText, HasParse, bounded_depth, IsDepth, IsBetween, IsDepthOf}
 
 pub depth_unplaced : (t : Table) (f : Trees) → depth t (unplaced f) ≡ depth t f
 depth_unplaced t nothing = refl
@@ -82,3 +90,11 @@ module _ (t u : Table) (s : IsSameGrammar t u) where
   depth_there symbols n h = record {
     is = λ tree d e. h.is tree ((say_the_same t u s symbols 0).1.derivations tree d) e ∙ ap (λ k. min k 4294967295) (depth_same tree);
   }
+
+-- ---- designs
+
+pub design_text : (t : Table) (acts : List Action) (units : Forest Form) (tokens : List Lexeme) → AreDerived t acts units → tokens ≡ tokens_of units → IsText t (symbols_in tokens)
+design_text t acts units tokens d e = record { tree = d.tree; derived = d.derivation.derived; yields = d.derivation.yields ∙ ap symbols_in (sym e) }
+
+pub design_depth : (units : Forest Form) (tokens : List Lexeme) (n : ℕ) → tokens ≡ tokens_of units → IsDepth grammar (symbols_in tokens) n → IsDepthOf units n
+design_depth units tokens n e h = record { is = λ tree d. h.is tree d.derived (d.yields ∙ ap symbols_in (sym e)) }

@@ -1,6 +1,10 @@
 -- How deep marked nodes stand in one another in the derivation of some symbols.
 use Rattle.std.specs.Prelude.{ℕ, ◌≡◌, ◌≤◌, min, List}
 use Rattle.vd_gram.specs.declared.tables.Table.{Table}
+use Rattle.vd_forest.specs.Forest.{Forest}
+use Rattle.vd_forms.specs.declared.form.Form.{Form}
+use Rattle.vd_grammar93.specs.Grammar.{grammar}
+use Rattle.vd_derivations.specs.Laws.{IsDerivationOf}
 use Rattle.vd_gram.specs.Derivations.{Trees, IsDerivation, IsParse, yield, depth}
 
 -- the symbols have a derivation
@@ -26,3 +30,7 @@ pub record IsDepth (t : Table) (symbols : List ℕ) (number : ℕ) : Type 0 wher
 pub record IsBetween (t : Table) (symbols : List ℕ) (low high : ℕ) : Type 0 where
   pub above : (tree : Trees) → IsDerivation t tree → yield tree ≡ symbols → low ≤ bounded_depth t tree
   pub below : (tree : Trees) → IsDerivation t tree → yield tree ≡ symbols → bounded_depth t tree ≤ high
+
+-- the number is the depth of each derivation of a design's tokens
+pub record IsDepthOf (units : Forest Form) (number : ℕ) : Type 0 where
+  pub is : (tree : Trees) → IsDerivationOf grammar units tree → number ≡ bounded_depth grammar tree

@@ -4,13 +4,15 @@ ghost use Rattle.std.specs.Prelude.{◌≡◌, ◌<◌, ◌≤◌, IfOk, MatchBo
 ghost use Rattle.vd_gram.specs.Derivations.{IsTooDeep};
 ghost use Rattle.vd_shapes.specs.Reading.{symbols_in};
 ghost use Rattle.vd_grammar93.specs.Grammar.{grammar};
-ghost use Rattle.vd_derivations93.specs.Depths.{IsText, HasParse, IsDepth};
+ghost use Rattle.vd_derivations93.specs.Depths.{IsText, HasParse, IsDepth, IsDepthOf};
 
 use std::alloc::{AllocError, Global};
+use vd_forms::Design93;
 use vd_gram::{Builder, CheckedTable, ParseEnd, Symbol, tell};
 use vd_grammar93::lists;
 use vd_shapes::{Rows, symbols_of};
 use vd_tokens::Tokens;
+use vd_writing::derive93;
 
 /// What is told the steps of a derivation, and keeps none.
 #[derive(Drop)]
@@ -100,4 +102,15 @@ pub fn depth_of_tokens(alloc: Global, tokens: &Tokens) -> Result<u32, AllocError
     let table = CheckedTable::of(rows.table());
     let symbols = symbols_of(alloc, tokens)?;
     depth_of_symbols(alloc, &table, &symbols)
+}
+
+/// The depth of the derivation of a design's tokens, or the greatest u32 where it is more. `read93` gives
+/// the design for these tokens where it is at most 2,000. It takes memory for the tokens: without
+/// memory a tree is gone through by recursion alone.
+pub fn depth93(alloc: Global, design: &Design93) -> Result<u32, AllocError>
+    ensures { IfOk result (λ depth. IsDepthOf design.now depth) }
+{
+    let _units = design.units();
+    let tokens = derive93(alloc, design)?;
+    depth_of_tokens(alloc, &tokens)
 }
