@@ -1,42 +1,44 @@
 -- Designs are read back from their tokens.
-use Rattle.std.proofs.Common.{◌≡◌, ℕ, zero, suc, ◌+◌, Bool, true, false, ◌&&◌, ◌||◌, not, List, [], ◌∷◌, ◌++◌, length, drop, map, Option, Some, None, refl, sym, ap, ◌∙◌, subst, append_assoc, append-nil}
-use Rattle.std.specs.Prelude.{IsTrue}
-use Rattle.vd_bytes.specs.declared.places.Place.{Place}
+use Rattle.std.proofs.Common.{◌≡◌, Bool, true, false, ◌||◌, not, List, [], ◌∷◌, ◌++◌, map, None, refl, sym, ap, ◌∙◌, subst, append-nil}
 use Rattle.vd_trees.specs.declared.revision.Revision.TheVariants.{V1993}
 use Rattle.vd_tokens.specs.declared.kinds.Kind.TheVariants as kind
 use Rattle.vd_tokens.specs.Lexemes.{Lexeme}
 use Rattle.vd_gram.specs.declared.tables.Table.{Table}
-use Rattle.vd_gram.specs.Claims.{is_checked}
-use Rattle.vd_gram.specs.Derivations.{Trees, Derive, IsDerivation, yield, unplaced}
+use Rattle.vd_gram.specs.Derivations.{Derive, IsDerivation, yield, unplaced}
 use Rattle.vd_gram.proofs.UniqueLemmas.{one_unplaced}
-use Rattle.vd_forest.specs.Forest.{Forest, nothing, more, reversed, erased, no_place, SameButPlaces}
+use Rattle.vd_forest.specs.Forest.{Forest, nothing, more, reversed, erased}
 use Rattle.vd_forest.proofs.ForestLemmas.{erased_erased}
 use Rattle.vd_forms.specs.declared.form.Form.{Form}
 use Rattle.vd_forms.specs.declared.form.Form.TheVariants as form
-use Rattle.vd_forms.specs.Slots.{Slot, slots_of, file_slots}
-use Rattle.vd_forms.specs.Validity.{forms_of, fits, is_bracketed, keeps_brackets, AreValid, IsDesign}
+use Rattle.vd_forms.specs.Slots.{slots_of, file_slots}
+use Rattle.vd_forms.specs.Validity.{forms_of, fits, keeps_brackets, AreValid, IsDesign}
 use Rattle.vd_shapes.specs.declared.actions.Action.{Action}
 use Rattle.vd_shapes.specs.Shapes.{shape}
 use Rattle.vd_shapes.specs.Reading.{symbol_of, symbols_in}
-use Rattle.vd_templates.specs.Templates.{Written, written, items_of, tokens_in, tokens_of, lexeme, tree_items}
+use Rattle.vd_templates.specs.Templates.{written, items_of, tokens_in, tokens_of, lexeme, tree_items}
 use Rattle.vd_derivations.specs.Drafts.{Draft, none, plain, lexemes, grows}
 use Rattle.vd_derivations.specs.Rows.{Standpoint}
-use Rattle.vd_derivations.specs.Checks.{base, from, bits}
-use Rattle.vd_derivations.specs.Laws.{without_place, AreTokensOf, IsDerivationOf, AreDerived, DesignsAreDerived, HaveNoOtherShape, rows_of, LeadBack, FileRow, file_template, IsFileOf, DesignsLeadBack, DesignsAreAlone}
-use Rattle.vd_derivations.proofs.WritingLemmas.{each_tokens, all_tokens, bits_tokens}
-use Rattle.vd_derivations.proofs.FillingLemmas.{puts, pushed, meant, CanAllStand, cannot, HolesFit, filled}
+use Rattle.vd_derivations.specs.Checks.{base}
+use Rattle.vd_derivations.specs.Laws.{without_place, DesignsAreDerived, rows_of, LeadBack, FileRow, file_template, IsFileOf, DesignsLeadBack, DesignsAreAlone}
+use Rattle.vd_derivations.proofs.WritingLemmas.{each_tokens, all_tokens}
+use Rattle.vd_derivations.proofs.FillingLemmas.{puts, meant, cannot, filled}
 use Rattle.vd_derivations.proofs.PartLemmas.{single, valid_of_93, all_bare}
-use Rattle.vd_derivations.proofs.MadeLemmas.{planted, planted_single, reversed_pushed}
+use Rattle.vd_derivations.proofs.MadeLemmas.{planted_single, reversed_pushed}
 use Rattle.vd_derivations.proofs.StandingLemmas.{all_can}
-use Rattle.vd_derivations.proofs.ShapeLemmas.{HaveNoPlace, yield_plain, symbols_with_end, symbols_without_place, no_place_append, no_place_tokens, draft_grown, unplaced_shape, erased_shape, forms_erased, one_erased, bracketed_erased, keeps_erased}
+use Rattle.vd_derivations.proofs.ShapeLemmas.{HaveNoPlace, yield_plain, symbols_with_end, symbols_without_place, no_place_append, no_place_tokens, draft_grown, unplaced_shape, erased_shape, forms_erased, bracketed_erased, keeps_erased}
 
 -- ---- validity without places
 
 valid_erased : (keep : Bool) (f : Forest Form) → AreValid V1993 keep f → AreValid V1993 keep (erased f)
 valid_erased keep nothing h = tt
-valid_erased keep (more f t p a b) h =
-    (h.0, ap (fits (slots_of V1993 f)) (forms_erased a) ∙ h.1, h.2, ap (λ x. keep || not x) (bracketed_erased f a) ∙ h.3,
-     subst (λ k. AreValid V1993 k (erased a)) (sym (keeps_erased f a)) (valid_erased (keeps_brackets f a) a h.4), valid_erased keep b h.5)
+valid_erased keep (more f t p a b) h = (
+  h.0,
+  ap (fits (slots_of V1993 f)) (forms_erased a) ∙ h.1,
+  h.2,
+  ap (λ x. keep || not x) (bracketed_erased f a) ∙ h.3,
+  subst (λ k. AreValid V1993 k (erased a)) (sym (keeps_erased f a)) (valid_erased (keeps_brackets f a) a h.4),
+  valid_erased keep b h.5,
+)
 
 -- ---- the derivation of a design
 
@@ -71,7 +73,7 @@ module _ (t : Table) (actions : List Action) (standpoints : List Standpoint) (r 
       let all : tokens_of units ≡ [] ++ (lexemes h.draft ++ lexeme kind.End [] ∷ []) = ap (λ ls. ls ++ lexeme kind.End [] ∷ []) (sym h.tokens) in
       let none_placed = no_place_append (tokens_in (items_of units)) (lexeme kind.End [] ∷ []) (no_place_tokens (items_of units)) (refl, tt) in
       let shaped : shape actions (tokens_of units) (plain h.draft) ≡ erased units =
-          ap reversed (draft_grown actions (tokens_of units) none_placed h.draft [] (lexeme kind.End [] ∷ []) 0 0 nothing all refl) ∙ h.grown in
+      ap reversed (draft_grown actions (tokens_of units) none_placed h.draft [] (lexeme kind.End [] ∷ []) 0 0 nothing all refl) ∙ h.grown in
       record {
         tree = plain h.draft;
         derivation = record {
@@ -101,6 +103,6 @@ alone t actions checked derived units tokens tree d are h e =
     record {
       same =
           erased_shape actions tokens tree ∙ ap (λ ts. shape actions ts tree) are ∙ sym (unplaced_shape actions (tokens_of units) tree) ∙ ap (shape actions (tokens_of units)) (sym same)
-          ∙ unplaced_shape actions (tokens_of units) own.tree 
+          ∙ unplaced_shape actions (tokens_of units) own.tree
           ∙ sym (erased_shape actions (tokens_of units) own.tree ∙ ap (λ ts. shape actions ts own.tree) (without_tokens units)) ∙ own.shaped.same;
     }

@@ -1,6 +1,5 @@
 -- Drafts one behind the other.
-use Rattle.std.proofs.Common.{◌≡◌, ℕ, zero, suc, Bool, true, false, List, [], ◌∷◌, ◌++◌, map, Option, Some, None, slice_get, slice_index_or, refl, sym, ap, ◌∙◌, subst, append_assoc}
-use Rattle.vd_tokens.specs.Lexemes.{Lexeme}
+use Rattle.std.proofs.Common.{◌≡◌, ℕ, zero, suc, List, [], ◌∷◌, ◌++◌, map, Some, slice_get, slice_index_or, refl, sym, ap, ◌∙◌, subst, append_assoc}
 use Rattle.vd_gram.specs.declared.tables.Production.{Production}
 use Rattle.vd_gram.specs.declared.tables.Table.{Table}
 use Rattle.vd_gram.specs.Derivations.{Derive}

@@ -1,14 +1,11 @@
 -- Templates whose holes are filled.
-use Rattle.std.proofs.Common.{◌≡◌, ◌≤◌, ◌<◌, ℕ, zero, suc, ◌+◌, Bool, true, false, ◌&&◌, List, [], ◌∷◌, ◌++◌, length, drop, map, Option, Some, None, is_none, nat_lt, slice_index_or, refl, sym, ap, ◌∙◌, subst, append_assoc, append-nil, arith}
+use Rattle.std.proofs.Common.{◌≡◌, ℕ, zero, suc, Bool, true, false, List, [], ◌∷◌, ◌++◌, length, drop, map, Option, Some, None, is_none, nat_lt, slice_index_or, refl, sym, ap, ◌∙◌, subst, append_assoc, append-nil, arith}
 use Rattle.std.specs.List.{list_all}
 use Rattle.std.proofs.lemmas.Bool.{and_parts}
-use Rattle.vd_tokens.specs.declared.kinds.Kind.{Kind}
-use Rattle.vd_tokens.specs.Lexemes.{Lexeme}
 use Rattle.vd_gram.specs.declared.tables.Table.{Table}
 use Rattle.vd_gram.specs.Claims.{is_terminal}
 use Rattle.vd_gram.specs.Derivations.{Derive}
-use Rattle.vd_bytes.specs.declared.places.Place.{Place}
-use Rattle.vd_forest.specs.Forest.{Forest, nothing, more, joined, turned, with_next, form_of, no_place}
+use Rattle.vd_forest.specs.Forest.{Forest, nothing, more, joined, with_next, form_of, no_place}
 use Rattle.vd_forest.proofs.ForestLemmas.{joined_joined, joined_nothing}
 use Rattle.vd_forms.specs.declared.form.Form.{Form}
 use Rattle.vd_shapes.specs.declared.actions.Action.{Action}
@@ -19,8 +16,8 @@ use Rattle.vd_shapes.specs.Rows.{plain as plain_row}
 use Rattle.vd_templates.specs.declared.states.TheConstants.{AS_IT_IS}
 use Rattle.vd_templates.specs.Templates.{Written, unwritten, tree_items, tokens_in, kind_at, lexeme}
 use Rattle.vd_derivations.specs.Drafts.{Draft, none, word, rule, plain, lexemes, followed, with_text, grows}
-use Rattle.vd_derivations.specs.Rows.{Template, done, rest, step, token, own, hole, each, Standpoint, point, stands, stands_as, put, finished}
-use Rattle.vd_derivations.specs.Checks.{Bit, Named, nil, base, ref, made, leaf, from, after, both, joined_names, acted_names, leaf_name, hole_name, Facts, no_facts, fact, flag, is_splice, tail_symbols, is_done, chain_symbols, chain_wanted, left_of, member_at, symbols_at, production_at, is_silent, left_by, symbols, has, wants, bits, hole_bits}
+use Rattle.vd_derivations.specs.Rows.{Template, done, rest, step, token, own, hole, each, Standpoint, point, stands_as, put, finished}
+use Rattle.vd_derivations.specs.Checks.{Named, nil, base, ref, made, leaf, from, after, both, joined_names, acted_names, leaf_name, hole_name, Facts, no_facts, fact, flag, is_splice, tail_symbols, is_done, chain_symbols, chain_wanted, left_of, member_at, symbols_at, production_at, is_silent, left_by, symbols, has, wants, bits, hole_bits}
 use Rattle.vd_derivations.proofs.DraftLemmas.{followed_derived, followed_lexemes, followed_grows, rule_derived}
 use Rattle.vd_derivations.proofs.WritingLemmas.{words, each_tokens, bits_tokens, bits_append}
 
@@ -340,8 +337,8 @@ module _ (t : Table) (rows : List (List ℕ)) (actions : List Action) (standpoin
           ∙ append_assoc (tokens_in (v (point standpoints s).state)) (lexemes i.draft) (lexemes rest_of.draft)
           ∙ ap (λ ls. ls ++ (lexemes i.draft ++ lexemes rest_of.draft)) written
           ∙ ap (λ ls. bits_tokens f text ws k (hole_bits t rows actions standpoints r (point standpoints s).state) ++ ls)
-            (ap (λ ls. ls ++ lexemes rest_of.draft) i.tokens ∙ ap (λ ls. bits_tokens f text ws k (bits t rows actions standpoints d) ++ ls) rest_of.tokens
-            ∙ sym (bits_append f text ws k (bits t rows actions standpoints d) (bits t rows actions standpoints b)))
+          (ap (λ ls. ls ++ lexemes rest_of.draft) i.tokens ∙ ap (λ ls. bits_tokens f text ws k (bits t rows actions standpoints d) ++ ls) rest_of.tokens
+          ∙ sym (bits_append f text ws k (bits t rows actions standpoints d) (bits t rows actions standpoints b)))
           ∙ sym (bits_append f text ws k (hole_bits t rows actions standpoints r (point standpoints s).state) (bits t rows actions standpoints d ++ bits t rows actions standpoints b));
       grown = λ start z.
           followed_grows actions h.draft rest_of.draft (means start z)

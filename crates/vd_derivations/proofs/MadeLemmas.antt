@@ -1,5 +1,5 @@
 -- A node that is made of its parts, as they are read, has the parts themselves.
-use Rattle.std.proofs.Common.{◌≡◌, ◌≤◌, ◌<◌, ℕ, zero, suc, ◌+◌, Bool, true, false, ◌&&◌, ◌||◌, not, if◌then◌else◌, List, [], ◌∷◌, length, drop, Option, Some, None, refl, sym, ap, ◌∙◌, subst, arith, drop-cons, drop_of_length-le}
+use Rattle.std.proofs.Common.{◌≡◌, ◌≤◌, ◌<◌, ℕ, zero, suc, Bool, true, false, ◌&&◌, ◌||◌, not, if◌then◌else◌, List, [], ◌∷◌, length, drop, refl, sym, ap, ◌∙◌, subst, arith, drop-cons, drop_of_length-le}
 use Rattle.std.proofs.lemmas.Bool.{and_parts, or_parts, false≢true}
 use Rattle.vd_bytes.specs.declared.places.Place.{Place}
 use Rattle.vd_trees.specs.declared.revision.Revision.TheVariants.{V1993}
@@ -14,9 +14,9 @@ use Rattle.vd_forms.specs.Validity.{forms_of, fits, is_bracketed, holders_of_act
 use Rattle.vd_shapes.specs.declared.actions.Action.{Action}
 use Rattle.vd_shapes.specs.Shapes.{without_brackets, unbracketed, settled, with_node}
 use Rattle.vd_derivations.specs.Drafts.{Draft}
-use Rattle.vd_derivations.specs.Rows.{Standpoint, point, is_operand, bare_forms, is_laid, laid, put}
-use Rattle.vd_derivations.specs.Checks.{Named, ref, from, first_parts, has_parts, is_keeper}
-use Rattle.vd_derivations.proofs.FillingLemmas.{tree_at, puts, pushed, meant}
+use Rattle.vd_derivations.specs.Rows.{Standpoint, point, is_operand, bare_forms, is_laid, laid}
+use Rattle.vd_derivations.specs.Checks.{from, first_parts, has_parts, is_keeper}
+use Rattle.vd_derivations.proofs.FillingLemmas.{puts, pushed, meant}
 use Rattle.vd_derivations.proofs.PartLemmas.{single, PutsFit}
 
 -- ---- trees in a list
@@ -139,7 +139,7 @@ module _ (t : Table) (actions : List Action) (standpoints : List Standpoint) whe
   pub made_again : (rows : List (List ℕ)) (text : List ℕ) (k : Draft) (y start : Forest Form) (f : Form) (ss : List Slot) (ps : List ℕ) (many : Bool) (a next : Forest Form)
       → has_parts ss ps many ≡ true → fits ss (forms_of a) ≡ true → PutsFit t rows actions standpoints f ps (single a) → AreValid V1993 (keeps_brackets f a) a
       → with_node actions [] f 0 (meant actions text k (y ∷ puts t actions standpoints ps (single a)) start (if many then from (length ps) (first_parts (length ps)) else first_parts (length ps))) next
-        ≡ more f [] no_place a next
+      ≡ more f [] no_place a next
   made_again rows text k y start f ss ps many a next h e fit v =
       let zs = puts t actions standpoints ps (single a) in
       let c = counted ss ps many a h e in

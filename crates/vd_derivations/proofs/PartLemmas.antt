@@ -1,8 +1,6 @@
 -- The parts of valid trees, at the places of a row.
-use Rattle.std.proofs.Common.{◌≡◌, ◌≤◌, ◌<◌, ℕ, zero, suc, ◌+◌, Bool, true, false, ◌&&◌, ◌||◌, not, nat_lt, List, [], ◌∷◌, length, drop, map, Option, Some, None, slice_index_or, refl, sym, ap, ◌∙◌, subst, arith}
-use Rattle.std.specs.List.{list_all}
+use Rattle.std.proofs.Common.{◌≡◌, ℕ, zero, suc, Bool, true, false, not, nat_lt, List, [], ◌∷◌, length, drop, Option, refl, sym, ap, ◌∙◌, subst, arith}
 use Rattle.std.proofs.lemmas.Bool.{and_parts, false≢true}
-use Rattle.vd_bytes.specs.declared.places.Place.{Place}
 use Rattle.vd_trees.specs.declared.revision.Revision.TheVariants.{V1993}
 use Rattle.vd_gram.specs.declared.tables.Table.{Table}
 use Rattle.vd_forest.specs.Forest.{Forest, nothing, more, form_of}
@@ -13,7 +11,7 @@ use Rattle.vd_forms.specs.Validity.{forms_of, fits, is_form_of, AreValid}
 use Rattle.vd_shapes.specs.declared.actions.Action.{Action}
 use Rattle.vd_derivations.specs.Rows.{Template, done, rest, step, token, own, hole, each, Standpoint, point, stands, stands_as, is_laid, laid, put}
 use Rattle.vd_derivations.specs.Checks.{member_at, slot_at, has_parts, behind_first, left_of, is_late, is_keeper, can_be_there, all_stand, places_stand, holes_stand, self_alone, has, wants}
-use Rattle.vd_derivations.proofs.FillingLemmas.{AllStandBare, HolesFit, tree_at, puts, fact_list, fact_first, fact_next, first_is}
+use Rattle.vd_derivations.proofs.FillingLemmas.{AllStandBare, HolesFit, tree_at, fact_list, fact_first, fact_next, first_is}
 use Rattle.vd_derivations.proofs.FormNumbers.{all_hold, late_is}
 
 -- the trees of a forest, each alone
@@ -144,9 +142,11 @@ module _ (t : Table) (rows : List (List ℕ)) (actions : List Action) (standpoin
   parts_fit tail places slots xs (own c b) h all u e = parts_fit tail places slots xs b h all u (ap fact_next e)
   parts_fit tail places slots xs (hole zero s d b) h all u e = absurd (false≢true u)
   parts_fit tail places slots xs (hole (suc i) s d b) h all u e =
-      let both = and_parts (holes_stand t rows actions standpoints f slots d) (holes_stand t rows actions standpoints f slots b) u in
-      (fit_at (behind_first places) xs i s (member_behind places i s (ap fact_list e)) h,
-       parts_fit tail places slots xs d h all both.0 (ap (λ q. fact_next (fact_first q)) e), parts_fit tail places slots xs b h all both.1 (ap fact_next e))
+      let both = and_parts (holes_stand t rows actions standpoints f slots d) (holes_stand t rows actions standpoints f slots b) u in (
+        fit_at (behind_first places) xs i s (member_behind places i s (ap fact_list e)) h,
+        parts_fit tail places slots xs d h all both.0 (ap (λ q. fact_next (fact_first q)) e),
+        parts_fit tail places slots xs b h all both.1 (ap fact_next e),
+      )
   parts_fit tail places slots xs (each j s pc sep pn b) h all u e =
       let both = and_parts (all_stand t rows actions standpoints f true s (slot_at slots j)) (holes_stand t rows actions standpoints f slots b) u in
       (all s j (length_behind places j (first_is _ _ _ _ (ap fact_list e))) both.0, parts_fit tail places slots xs b h all both.1 (ap fact_next e))
@@ -171,8 +171,11 @@ module _ (t : Table) (rows : List (List ℕ)) (actions : List Action) (standpoin
   itself_fits tail places n x xs (own c b) l h u e = itself_fits tail places n x xs b l h u (ap fact_next e)
   itself_fits tail places n x xs (hole zero s d b) l h u e =
       let both = and_parts (self_alone t rows actions standpoints d) (self_alone t rows actions standpoints b) u in
-      let is = self_place places s (ap fact_list e) in
-      (subst (λ q. nat_lt (point standpoints q).level n ≡ true) is l, subst (λ q. stands_as standpoints q (form_of x) ≡ true) is h,
-       itself_fits tail places n x xs d l h both.0 (ap (λ q. fact_next (fact_first q)) e), itself_fits tail places n x xs b l h both.1 (ap fact_next e))
+      let is = self_place places s (ap fact_list e) in (
+        subst (λ q. nat_lt (point standpoints q).level n ≡ true) is l,
+        subst (λ q. stands_as standpoints q (form_of x) ≡ true) is h,
+        itself_fits tail places n x xs d l h both.0 (ap (λ q. fact_next (fact_first q)) e),
+        itself_fits tail places n x xs b l h both.1 (ap fact_next e),
+      )
   itself_fits tail places n x xs (hole (suc r) s d b) l h u e = absurd (false≢true u)
   itself_fits tail places n x xs (each j s pc sep pn b) l h u e = absurd (false≢true u)

@@ -1,19 +1,16 @@
 -- The shape of a derivation without places.
-use Rattle.std.proofs.Common.{◌≡◌, ℕ, zero, suc, ◌+◌, Bool, true, false, ◌&&◌, ◌||◌, not, List, [], ◌∷◌, ◌++◌, length, map, Option, Some, None, slice_get, slice_index_or, refl, sym, ap, ◌∙◌, subst, append_assoc, append-nil, length-append, arith}
-use Rattle.std.proofs.lemmas.Bool.{and_parts, false≢true}
-use Rattle.vd_bytes.specs.declared.places.Place.{Place}
-use Rattle.vd_tokens.specs.declared.kinds.Kind.{Kind}
+use Rattle.std.proofs.Common.{◌≡◌, ℕ, zero, suc, ◌+◌, Bool, true, false, ◌&&◌, ◌||◌, not, List, [], ◌∷◌, ◌++◌, length, map, Option, Some, None, refl, sym, ap, ◌∙◌, append_assoc, length-append, arith}
 use Rattle.vd_tokens.specs.Lexemes.{Lexeme}
 use Rattle.vd_gram.specs.Derivations.{Trees, nothing as no_tree, leaf, node, yield, unplaced}
-use Rattle.vd_forest.specs.Forest.{Forest, nothing, more, joined, turned, reversed, with_next, erased, no_place}
+use Rattle.vd_forest.specs.Forest.{Forest, nothing, more, joined, reversed, erased, no_place}
 use Rattle.vd_forest.proofs.ForestLemmas.{erased_joined, erased_turned, erased_with_next}
 use Rattle.vd_forms.specs.declared.form.Form.{Form}
 use Rattle.vd_forms.specs.declared.form.Form.TheVariants as form
-use Rattle.vd_forms.specs.Forms.{same_form, is_among, expressions}
+use Rattle.vd_forms.specs.Forms.{same_form, is_among}
 use Rattle.vd_forms.specs.Validity.{forms_of, is_one_expression, is_bracketed, holders_of_actuals, keeps_brackets}
 use Rattle.vd_shapes.specs.declared.actions.Action.{Action}
 use Rattle.vd_shapes.specs.declared.actions.Action.TheVariants.{Splice, Make, Wrap, Group}
-use Rattle.vd_shapes.specs.Shapes.{text_in, place_in, text_at, place_at, leaf_form, without_brackets, unbracketed, settled, action_of, with_leaf, with_node, acted, start_of, grown, shape}
+use Rattle.vd_shapes.specs.Shapes.{text_at, place_at, leaf_form, without_brackets, unbracketed, settled, action_of, with_leaf, with_node, acted, start_of, grown, shape}
 use Rattle.vd_shapes.specs.Reading.{symbol_of, symbols_in}
 use Rattle.vd_templates.specs.Templates.{Item, token, end_line, inward, outward, tokens_in, lexeme}
 use Rattle.vd_derivations.specs.Drafts.{Draft, none, word, rule, plain, lexemes, with_text, grows}
@@ -104,9 +101,9 @@ module _ (actions : List Action) (tokens : List Lexeme) (none_placed : HaveNoPla
       let next : i + length (yield (plain a)) ≡ length (before ++ lexemes a) = omega (arith, l, length_yield a, length-append before (lexemes a)) in
       let act = action_of actions tokens q in
       draft_grown n (before ++ lexemes a) after start (i + length (yield (plain a)))
-        (acted actions tokens act (start_of actions tokens act start i) (grown actions tokens (start_of actions tokens act start i) i (plain a)) so_far) step next
+      (acted actions tokens act (start_of actions tokens act start i) (grown actions tokens (start_of actions tokens act start i) i (plain a)) so_far) step next
       ∙ ap (grows actions n) (same_acted act (start_of actions tokens act start i) (grown actions tokens (start_of actions tokens act start i) i (plain a)) (grows actions a) so_far
-        (λ f. draft_grown a before (lexemes n ++ after) (start_of actions tokens act start i) i f inside l))
+      (λ f. draft_grown a before (lexemes n ++ after) (start_of actions tokens act start i) i f inside l))
 
 -- ---- the places of leaves don't count
 
@@ -190,7 +187,7 @@ module _ (actions : List Action) (tokens : List Lexeme) where
   erased_node : (f : Form) (i : ℕ) (parts so_far : Forest Form) → erased (with_node actions tokens f i parts so_far) ≡ with_node actions bare f i (erased parts) (erased so_far)
   erased_node f i parts so_far =
       ap (λ x. more f [] no_place x (erased so_far)) (settled_erased (keeps_brackets f (reversed parts)) (reversed parts) ∙ ap (λ k. settled k (erased (reversed parts))) (sym (keeps_erased f (reversed parts)))
-        ∙ ap (λ x. settled (keeps_brackets f x) x) (erased_reversed parts))
+      ∙ ap (λ x. settled (keeps_brackets f x) x) (erased_reversed parts))
       ∙ ap (λ p. more f [] p (settled (keeps_brackets f (reversed (erased parts))) (reversed (erased parts))) (erased so_far)) (sym (place_none bare i (no_place_without tokens)))
 
   erased_acted : (a : Action) (i : ℕ) (inner inner' : Forest Form → Forest Form) (so_far : Forest Form) → ((f : Forest Form) → erased (inner f) ≡ inner' (erased f)) → erased (acted actions tokens a i inner so_far) ≡ acted actions bare a i inner' (erased so_far)

@@ -1,10 +1,8 @@
 -- Valid trees stand where their rows say.
-use Rattle.std.proofs.Common.{◌≡◌, ◌≤◌, ◌<◌, ℕ, zero, suc, ◌+◌, Bool, true, false, ◌&&◌, ◌||◌, not, if◌then◌else◌, nat_eq, nat_lt, is_some, List, [], ◌∷◌, ◌++◌, length, drop, map, Option, Some, None, slice_index_or, refl, sym, ap, ◌∙◌, subst, arith, append-nil}
+use Rattle.std.proofs.Common.{◌≡◌, ℕ, zero, suc, Bool, true, false, ◌&&◌, ◌||◌, not, nat_eq, nat_lt, is_some, List, [], ◌∷◌, ◌++◌, length, map, Option, Some, None, slice_index_or, refl, sym, ap, ◌∙◌, subst, arith, append-nil}
 use Rattle.std.proofs.lemmas.Bool.{and_parts, false≢true}
-use Rattle.vd_bytes.specs.declared.places.Place.{Place}
 use Rattle.vd_trees.specs.declared.revision.Revision.TheVariants.{V1993}
 use Rattle.vd_tokens.specs.declared.kinds.Kind.{Kind}
-use Rattle.vd_tokens.specs.Lexemes.{Lexeme}
 use Rattle.vd_gram.specs.declared.tables.Table.{Table}
 use Rattle.vd_gram.specs.Derivations.{Derive}
 use Rattle.vd_forest.specs.Forest.{Forest, nothing, more, joined, with_next, erased, no_place}
@@ -12,18 +10,18 @@ use Rattle.vd_forms.specs.declared.form.Form.{Form}
 use Rattle.vd_forms.specs.declared.form.Form.TheVariants as form
 use Rattle.vd_forms.specs.Forms.{same_form, is_among, expressions}
 use Rattle.vd_forms.specs.Slots.{Slot, One, Many, slots_of}
-use Rattle.vd_forms.specs.Validity.{forms_of, fits, is_one_expression, is_bracketed, leaf_kind, HasText, IsTextAt, keeps_brackets, AreValid}
+use Rattle.vd_forms.specs.Validity.{forms_of, fits, is_one_expression, leaf_kind, HasText, IsTextAt, keeps_brackets, AreValid}
 use Rattle.vd_shapes.specs.declared.actions.Action.{Action}
-use Rattle.vd_shapes.specs.Shapes.{without_brackets, unbracketed, settled, with_node}
+use Rattle.vd_shapes.specs.Shapes.{without_brackets, settled}
 use Rattle.vd_shapes.specs.Rows.{plain as plain_row}
-use Rattle.vd_templates.specs.Templates.{Written, written, row_of, tokens_in, tree_items}
-use Rattle.vd_derivations.specs.Drafts.{Draft, none, plain, lexemes, grows}
-use Rattle.vd_derivations.specs.Rows.{Template, Row, Standpoint, nowhere, found, point, stands, stands_as, is_laid, laid, put, finished}
-use Rattle.vd_derivations.specs.Checks.{Bit, bits_of, bits_within, bits_opened, Named, nil, base, ref, made, leaf, after, left_of, has_parts, behind_first, all_parts, made_or_leaf, round_or_not, brackets_fit, has_first, leaf_fits, tail_bits, symbols, has, wants, left_by, bits, self_alone, place_within, row_writes, wanted_bits, all_stand, places_stand, holes_stand, fits_parts, fits_row, is_one, row_fits, tree_name, wanted_name, Answer, answer, wanted_answer, RowAnswer, row_answer, wanted_row_answer, answers_at, wanted_at}
+use Rattle.vd_templates.specs.Templates.{Written, written, tokens_in, tree_items}
+use Rattle.vd_derivations.specs.Drafts.{Draft, plain, lexemes, grows}
+use Rattle.vd_derivations.specs.Rows.{Row, Standpoint, nowhere, found, point, stands, is_laid, laid, put, finished}
+use Rattle.vd_derivations.specs.Checks.{Bit, bits_of, bits_within, bits_opened, Named, nil, base, made, left_of, has_parts, behind_first, all_parts, made_or_leaf, round_or_not, brackets_fit, has_first, leaf_fits, tail_bits, symbols, has, wants, left_by, bits, self_alone, place_within, row_writes, wanted_bits, places_stand, holes_stand, fits_parts, fits_row, is_one, row_fits, tree_name, wanted_name, answer, wanted_answer, row_answer, wanted_row_answer, answers_at, wanted_at}
 use Rattle.vd_derivations.proofs.WritingLemmas.{bits_tokens, bits_append, tree_tokens, within_tokens, opened_tokens}
-use Rattle.vd_derivations.proofs.FillingLemmas.{tree_at, puts, meant, Follows, IsDrafted, CanStand, CanStandBelow, CanAllStand, cannot, HolesFit, IsFilled, filled}
+use Rattle.vd_derivations.proofs.FillingLemmas.{puts, meant, Follows, IsDrafted, CanStand, CanStandBelow, CanAllStand, cannot, HolesFit, filled}
 use Rattle.vd_derivations.proofs.FormNumbers.{same_is, all_same}
-use Rattle.vd_derivations.proofs.PartLemmas.{single, AreOf93, valid_of_93, PutsFit, puts_fit, bare_behind, parts_fit, itself_fits}
+use Rattle.vd_derivations.proofs.PartLemmas.{single, valid_of_93, PutsFit, puts_fit, bare_behind, parts_fit, itself_fits}
 use Rattle.vd_derivations.proofs.MadeLemmas.{laid_expression, made_again}
 
 first_same : {X : Type 0} (x y : X) (xs ys : List X) → x ∷ xs ≡ y ∷ ys → x ≡ y
@@ -117,15 +115,15 @@ module _ (t : Table) (rows : List (List ℕ)) (actions : List Action) (standpoin
       row_tokens_are s k r follows e true q =
           let within = (place_within t rows actions standpoints r).state in
           let w : bits_opened s.state f (bits t rows actions standpoints r.template) ≡ bits_within within s.state f ++ tail_bits s.tail =
-              subst (λ b. elim b [ true ↦ bits_opened s.state f (bits t rows actions standpoints r.template) | false ↦ bits t rows actions standpoints r.template ]
-                ≡ elim b [ true ↦ bits_within within s.state f | false ↦ bits_of s.state f ] ++ tail_bits s.tail) q e in
+          subst (λ b. elim b [ true ↦ bits_opened s.state f (bits t rows actions standpoints r.template) | false ↦ bits t rows actions standpoints r.template ]
+          ≡ elim b [ true ↦ bits_within within s.state f | false ↦ bits_of s.state f ] ++ tail_bits s.tail) q e in
           sym (opened_tokens f text ws k s.state (bits t rows actions standpoints r.template)) ∙ ap (bits_tokens f text ws k) w
           ∙ with_tail s k (bits_within within s.state f) follows (within_tokens f text ws k within s.state)
       row_tokens_are s k r follows e false q =
           let within = (place_within t rows actions standpoints r).state in
           let w : bits t rows actions standpoints r.template ≡ bits_of s.state f ++ tail_bits s.tail =
-              subst (λ b. elim b [ true ↦ bits_opened s.state f (bits t rows actions standpoints r.template) | false ↦ bits t rows actions standpoints r.template ]
-                ≡ elim b [ true ↦ bits_within within s.state f | false ↦ bits_of s.state f ] ++ tail_bits s.tail) q e in
+          subst (λ b. elim b [ true ↦ bits_opened s.state f (bits t rows actions standpoints r.template) | false ↦ bits t rows actions standpoints r.template ]
+          ≡ elim b [ true ↦ bits_within within s.state f | false ↦ bits_of s.state f ] ++ tail_bits s.tail) q e in
           ap (bits_tokens f text ws k) w ∙ with_tail s k (bits_of s.state f) follows (tree_tokens f text ws k s.state)
 
       -- the names of the row for this form
@@ -156,7 +154,7 @@ module _ (t : Table) (rows : List (List ℕ)) (actions : List Action) (standpoin
       drafted : (s : ℕ) (k : Draft) (r : Row) (n : ℕ) (y : Forest Form) (itself : CanStandBelow t actions standpoints n items y) → Follows t actions standpoints (point standpoints s).tail k → IsLead (point standpoints s) r f
           → HolesFit t actions standpoints n y (single a) r.template
           → ((start : Forest Form) (m : Named) → meant actions text k (puts t actions standpoints r.places (y ∷ single a)) start (tree_name t rows actions standpoints r r.forms m)
-              ≡ with_next (put (point standpoints s).state tree) (meant actions text k (puts t actions standpoints r.places (y ∷ single a)) start m))
+          ≡ with_next (put (point standpoints s).state tree) (meant actions text k (puts t actions standpoints r.places (y ∷ single a)) start m))
           → IsDrafted t actions standpoints s items tree k
       drafted s k r n y itself follows lead holes made_is =
           let i = filled t rows actions standpoints are f text k (point standpoints s).tail follows r.places n y ws (single a) itself can r.template lead.facts holes in
@@ -215,11 +213,15 @@ module _ (t : Table) (rows : List (List ℕ)) (actions : List Action) (standpoin
       down : (s : ℕ) (k : Draft) (r : Row) → Follows t actions standpoints (point standpoints s).tail k → IsLead (point standpoints s) r f → r.up ≡ false → IsDrafted t actions standpoints s items tree k
       down s k r follows lead e =
           let u : (fits_parts t rows actions standpoints f r && not (is_laid (point standpoints s).state f)) ≡ true =
-              subst (λ b. elim b [ true ↦ stands standpoints (left_of r.places) f && brackets_fit f r.round (is_laid (point standpoints s).state f) (is_laid (place_within t rows actions standpoints r).state f)
-                | false ↦ fits_parts t rows actions standpoints f r && not (is_laid (point standpoints s).state f) ] ≡ true) e lead.fit in
+          subst (λ b. elim b [
+            | true ↦ stands standpoints (left_of r.places) f && brackets_fit f r.round (is_laid (point standpoints s).state f) (is_laid (place_within t rows actions standpoints r).state f)
+            | false ↦ fits_parts t rows actions standpoints f r && not (is_laid (point standpoints s).state f)
+          ] ≡ true) e lead.fit in
           let one : is_one t rows actions standpoints r.forms ≡ true =
-              subst (λ b. elim b [ true ↦ has_first r.places && (nat_lt (place_within t rows actions standpoints r).level (point standpoints s).level && self_alone t rows actions standpoints r.template)
-                | false ↦ is_one t rows actions standpoints r.forms ] ≡ true) e lead.row_fit in
+          subst (λ b. elim b [
+            | true ↦ has_first r.places && (nat_lt (place_within t rows actions standpoints r).level (point standpoints s).level && self_alone t rows actions standpoints r.template)
+            | false ↦ is_one t rows actions standpoints r.forms
+          ] ≡ true) e lead.row_fit in
           let forms = one_form r.forms one lead.member in
           let q = and_parts (fits_parts t rows actions standpoints f r) (not (is_laid (point standpoints s).state f)) u in
           let p0 = and_parts (has_parts (slots_of V1993 f) (behind_first r.places) r.many) (places_stand t rows actions standpoints f (slots_of V1993 f) (behind_first r.places) && (holes_stand t rows actions standpoints f (slots_of V1993 f) r.template && leaf_fits (leaf_kind f) r)) q.0 in
@@ -228,14 +230,14 @@ module _ (t : Table) (rows : List (List ℕ)) (actions : List Action) (standpoin
           let of = valid_of_93 (keeps_brackets f a) a valid in
           let fit = puts_fit t rows actions standpoints f (slots_of V1993 f) (behind_first r.places) r.many a p0.0 p1.0 fitting of in
           let holes = parts_fit t rows actions standpoints f (point standpoints s).tail r.places (slots_of V1993 f) (single a) r.template fit
-              (λ p j l h. bare_behind t rows actions standpoints f (slots_of V1993 f) (behind_first r.places) r.many a p j l p0.0 h fitting of) p2.0 lead.facts in
+          (λ p j l h. bare_behind t rows actions standpoints f (slots_of V1993 f) (behind_first r.places) r.many a p j l p0.0 h fitting of) p2.0 lead.facts in
           let there = puts_nothing r.places (single a) in
           drafted s k r 0 nothing (cannot t actions standpoints 0 items) follows lead holes
           (λ start m.
-              ap (meant actions text k (puts t actions standpoints r.places (nothing ∷ single a)) start) (down_name r m forms e)
-              ∙ subst (λ us. meant actions text k us start (made_or_leaf f (leaf_kind f) (all_parts r) m) ≡ more f text no_place a (meant actions text k us start m)) (sym there.1)
-                (made_tree r k nothing start m q.0 fit (leaf_kind f) refl (puts t actions standpoints (behind_first r.places) (single a)) refl there.0)
-              ∙ ap (λ x. with_next x (meant actions text k (puts t actions standpoints r.places (nothing ∷ single a)) start m)) (sym (bare (is_laid (point standpoints s).state f) (not_is _ q.1))))
+          ap (meant actions text k (puts t actions standpoints r.places (nothing ∷ single a)) start) (down_name r m forms e)
+          ∙ subst (λ us. meant actions text k us start (made_or_leaf f (leaf_kind f) (all_parts r) m) ≡ more f text no_place a (meant actions text k us start m)) (sym there.1)
+          (made_tree r k nothing start m q.0 fit (leaf_kind f) refl (puts t actions standpoints (behind_first r.places) (single a)) refl there.0)
+          ∙ ap (λ x. with_next x (meant actions text k (puts t actions standpoints r.places (nothing ∷ single a)) start m)) (sym (bare (is_laid (point standpoints s).state f) (not_is _ q.1))))
 
       -- ---- a row by which the tree stands as it does at another place
 
@@ -253,7 +255,7 @@ module _ (t : Table) (rows : List (List ℕ)) (actions : List Action) (standpoin
 
       up_puts : (k : Draft) (places : List ℕ) (start : Forest Form) (m : Named) (round b : Bool) → has_first places ≡ true → brackets_fit f round b (is_laid (point standpoints (left_of places)).state f) ≡ true → (b ≡ true → is_among expressions f ≡ true)
           → meant actions text k (puts t actions standpoints places (tree ∷ single a)) start (round_or_not round m)
-            ≡ with_next (laid b tree) (meant actions text k (puts t actions standpoints places (tree ∷ single a)) start m)
+          ≡ with_next (laid b tree) (meant actions text k (puts t actions standpoints places (tree ∷ single a)) start m)
       up_puts k [] start m round b h e x = absurd (false≢true h)
       up_puts k (p ∷ ps) start m round b h e x = up_tree k (puts t actions standpoints ps (single a)) start m round b (is_laid (point standpoints p).state f) e x
 
@@ -261,20 +263,24 @@ module _ (t : Table) (rows : List (List ℕ)) (actions : List Action) (standpoin
           → nat_lt (point standpoints s).level (suc n) ≡ true → IsDrafted t actions standpoints s items tree k
       up s k r n itself follows lead e level =
           let u : (stands standpoints (left_of r.places) f && brackets_fit f r.round (is_laid (point standpoints s).state f) (is_laid (place_within t rows actions standpoints r).state f)) ≡ true =
-              subst (λ b. elim b [ true ↦ stands standpoints (left_of r.places) f && brackets_fit f r.round (is_laid (point standpoints s).state f) (is_laid (place_within t rows actions standpoints r).state f)
-                | false ↦ fits_parts t rows actions standpoints f r && not (is_laid (point standpoints s).state f) ] ≡ true) e lead.fit in
+          subst (λ b. elim b [
+            | true ↦ stands standpoints (left_of r.places) f && brackets_fit f r.round (is_laid (point standpoints s).state f) (is_laid (place_within t rows actions standpoints r).state f)
+            | false ↦ fits_parts t rows actions standpoints f r && not (is_laid (point standpoints s).state f)
+          ] ≡ true) e lead.fit in
           let q = and_parts (stands standpoints (left_of r.places) f) (brackets_fit f r.round (is_laid (point standpoints s).state f) (is_laid (place_within t rows actions standpoints r).state f)) u in
           let v : (has_first r.places && (nat_lt (place_within t rows actions standpoints r).level (point standpoints s).level && self_alone t rows actions standpoints r.template)) ≡ true =
-              subst (λ b. elim b [ true ↦ has_first r.places && (nat_lt (place_within t rows actions standpoints r).level (point standpoints s).level && self_alone t rows actions standpoints r.template)
-                | false ↦ is_one t rows actions standpoints r.forms ] ≡ true) e lead.row_fit in
+          subst (λ b. elim b [
+            | true ↦ has_first r.places && (nat_lt (place_within t rows actions standpoints r).level (point standpoints s).level && self_alone t rows actions standpoints r.template)
+            | false ↦ is_one t rows actions standpoints r.forms
+          ] ≡ true) e lead.row_fit in
           let v0 = and_parts (has_first r.places) (nat_lt (place_within t rows actions standpoints r).level (point standpoints s).level && self_alone t rows actions standpoints r.template) v in
           let v1 = and_parts (nat_lt (place_within t rows actions standpoints r).level (point standpoints s).level) (self_alone t rows actions standpoints r.template) v0.1 in
           let holes = itself_fits t rows actions standpoints f (point standpoints s).tail r.places n tree (single a) r.template
-              (level_below (place_within t rows actions standpoints r).level (point standpoints s).level n v1.0 level) q.0 v1.1 lead.facts in
+          (level_below (place_within t rows actions standpoints r).level (point standpoints s).level n v1.0 level) q.0 v1.1 lead.facts in
           drafted s k r n tree itself follows lead holes
           (λ start m.
-              ap (meant actions text k (puts t actions standpoints r.places (tree ∷ single a)) start) (up_name r r.forms m lead.member e)
-              ∙ up_puts k r.places start m r.round (is_laid (point standpoints s).state f) v0.0 q.1 (laid_expression (point standpoints s).state f))
+          ap (meant actions text k (puts t actions standpoints r.places (tree ∷ single a)) start) (up_name r r.forms m lead.member e)
+          ∙ up_puts k r.places start m r.round (is_laid (point standpoints s).state f) v0.0 q.1 (laid_expression (point standpoints s).state f))
 
       -- ---- wherever it may stand
 

@@ -1,6 +1,5 @@
 -- The tokens of a tree, by the bits of its row.
-use Rattle.std.proofs.Common.{◌≡◌, ℕ, zero, suc, Bool, true, false, nat_eq, List, [], ◌∷◌, ◌++◌, drop, Option, Some, None, slice_index_or, refl, sym, ap, ◌∙◌, append_assoc, append-nil, arith}
-use Rattle.vd_tokens.specs.declared.kinds.Kind.{Kind}
+use Rattle.std.proofs.Common.{◌≡◌, ℕ, Bool, true, false, nat_eq, List, [], ◌∷◌, ◌++◌, drop, slice_index_or, refl, sym, ap, ◌∙◌, append_assoc, append-nil, arith}
 use Rattle.vd_tokens.specs.Lexemes.{Lexeme}
 use Rattle.vd_forms.specs.declared.form.Form.{Form}
 use Rattle.vd_forms.specs.Validity.{leaf_kind}

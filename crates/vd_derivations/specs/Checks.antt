@@ -10,7 +10,7 @@ use Rattle.vd_forms.specs.declared.form.Form.{Form}
 use Rattle.vd_forms.specs.declared.form.Form.TheVariants as form
 use Rattle.vd_forms.specs.Forms.{form_number, same_form, is_among}
 use Rattle.vd_forms.specs.Slots.{Slot, One, Many, slots_of}
-use Rattle.vd_forms.specs.Validity.{is_form_of, leaf_kind, holders_of_actuals}
+use Rattle.vd_forms.specs.Validity.{leaf_kind, holders_of_actuals}
 use Rattle.vd_shapes.specs.declared.actions.Action.{Action}
 use Rattle.vd_shapes.specs.declared.actions.Action.TheVariants.{Splice, Make, Wrap, Group}
 use Rattle.vd_shapes.specs.Shapes.{leaf_form, action_of}
@@ -19,7 +19,7 @@ use Rattle.vd_templates.specs.declared.pieces.Piece.{Piece}
 use Rattle.vd_templates.specs.declared.pieces.Piece.TheVariants.{Of, AnyOther, Token, Own, Itself, Part, Listed, Parts, Nothing, EndLine, Inward, Outward}
 use Rattle.vd_templates.specs.declared.states.TheConstants.{AS_IT_IS}
 use Rattle.vd_templates.specs.Templates.{row_of, kind_at}
-use Rattle.vd_derivations.specs.Rows.{Template, done, rest, step, token, own, hole, each, Row, Standpoint, found, point, stands, is_laid}
+use Rattle.vd_derivations.specs.Rows.{Template, done, rest, step, token, own, hole, each, Row, Standpoint, point, stands, is_laid}
 
 -- ---- what is written
 
@@ -321,8 +321,11 @@ module _ (t : Table) (rows : List (List ℕ)) (actions : List Action) (standpoin
     -- a form of the revision may stand there, and has no brackets there where none may be written
     abbrev pub can_be_there : Bool → ℕ → Form → Bool
     can_be_there unlaid s g =
-        elim (is_late (form_number g)) [ true ↦ true | false ↦
-        elim (stands standpoints s g) [ true ↦ elim unlaid [ true ↦ not (is_laid (point standpoints s).state g) | false ↦ true ] | false ↦ false ] ]
+        elim (is_late (form_number g)) [
+          | true ↦ true
+          | false ↦
+              elim (stands standpoints s g) [ true ↦ elim unlaid [ true ↦ not (is_laid (point standpoints s).state g) | false ↦ true ] | false ↦ false ]
+        ]
 
     abbrev pub all_stand : Bool → ℕ → List Form → Bool
     all_stand unlaid s fs = list_all (can_be_there unlaid s) fs

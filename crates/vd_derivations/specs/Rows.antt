@@ -1,7 +1,6 @@
 -- How a tree is derived: pieces of derivations with holes for the tree's parts, for each form and each place where it may stand.
 use Rattle.std.specs.Prelude.{ℕ, Bool, true, false, ◌&&◌, not, nat_eq, nat_le, List, [], ◌∷◌, Option, Some, None, is_some, slice_index_or}
 use Rattle.vd_tokens.specs.declared.kinds.Kind.{Kind}
-use Rattle.vd_bytes.specs.declared.places.Place.{Place}
 use Rattle.vd_forest.specs.Forest.{Forest, nothing, more, with_next, joined, no_place}
 use Rattle.vd_forms.specs.declared.form.Form.{Form}
 use Rattle.vd_forms.specs.declared.form.Form.TheVariants as form
@@ -69,12 +68,27 @@ module _ (standpoints : List Standpoint) where
 -- what stands without brackets in the states of operands: primaries, and left operands of the same operators
 abbrev pub bare_forms : ℕ → List Form
 bare_forms state =
-    elim (nat_eq state LEFT_OF_AND) [ true ↦ form.And ∷ primaries | false ↦
-    elim (nat_eq state LEFT_OF_OR) [ true ↦ form.Or ∷ primaries | false ↦
-    elim (nat_eq state LEFT_OF_XOR) [ true ↦ form.Xor ∷ primaries | false ↦
-    elim (nat_eq state LEFT_OF_XNOR) [ true ↦ form.Xnor ∷ primaries | false ↦
-    elim (nat_eq state LEFT_OF_SUM) [ true ↦ form.Add ∷ form.Subtract ∷ form.Concatenate ∷ primaries | false ↦
-    elim (nat_eq state LEFT_OF_PRODUCT) [ true ↦ form.Multiply ∷ form.Divide ∷ form.Modulo ∷ form.Remainder ∷ primaries | false ↦ primaries ] ] ] ] ] ]
+    elim (nat_eq state LEFT_OF_AND) [
+      | true ↦ form.And ∷ primaries
+      | false ↦
+          elim (nat_eq state LEFT_OF_OR) [
+            | true ↦ form.Or ∷ primaries
+            | false ↦
+                elim (nat_eq state LEFT_OF_XOR) [
+                  | true ↦ form.Xor ∷ primaries
+                  | false ↦
+                      elim (nat_eq state LEFT_OF_XNOR) [
+                        | true ↦ form.Xnor ∷ primaries
+                        | false ↦
+                            elim (nat_eq state LEFT_OF_SUM) [
+                              | true ↦ form.Add ∷ form.Subtract ∷ form.Concatenate ∷ primaries
+                              | false ↦
+                                  elim (nat_eq state LEFT_OF_PRODUCT) [ true ↦ form.Multiply ∷ form.Divide ∷ form.Modulo ∷ form.Remainder ∷ primaries | false ↦ primaries ]
+                            ]
+                      ]
+                ]
+          ]
+    ]
 
 abbrev pub is_operand : ℕ → Bool
 is_operand state = nat_le OPERAND state && nat_le state LEFT_OF_PRODUCT

@@ -1,3 +1,4 @@
 pub mod Standpoints
 pub mod Checked
+pub mod DepthLemmas
 pub mod ReadingLemmas

@@ -23,11 +23,7 @@ use Rattle.vd_grammar93.specs.Grammar.{grammar, actions}
 use Rattle.vd_grammar93.proofs.Checked.{grammar_is_checked}
 use Rattle.vd_derivations93.specs.Laws.{IsReadBack, DesignsAreReadBack}
 use Rattle.vd_derivations93.proofs.Checked.{derived, no_other}
-
-depth_unplaced : (t : Table) (f : Trees) → depth t (unplaced f) ≡ depth t f
-depth_unplaced t nothing = refl
-depth_unplaced t (leaf s p n) = depth_unplaced t n
-depth_unplaced t (node q a n) = λ i. max (mark_of t q + depth_unplaced t a i) (depth_unplaced t n i)
+use Rattle.vd_derivations93.proofs.DepthLemmas.{depth_unplaced, not_refused}
 
 module _ (t : Table) (acts : List Action) (checked : is_checked t ≡ true) (units : Forest Form) (tokens : List Lexeme) (are : AreTokensOf tokens units) where
   symbols_same : symbols_in (tokens_of units) ≡ symbols_in tokens
@@ -38,12 +34,7 @@ module _ (t : Table) (acts : List Action) (checked : is_checked t ≡ true) (uni
 
   never_refused : (tree : Trees) → IsDerivationOf t units tree → (refused : Refused) → IsRefusedAt t tokens 2000 refused → ⊥
   never_refused tree d refused h =
-      h.refused_there.hopeless.hopeless (record {
-        tree = tree;
-        rest = drop (h.number + 1) (with_end (symbols_in tokens));
-        derived = d.derived;
-        begins = ap with_end (yields_them tree d) ∙ sym (take-append-drop (h.number + 1) (with_end (symbols_in tokens)));
-      })
+      not_refused t (symbols_in tokens) (record { tree = tree; derived = d.derived; yields = yields_them tree d }) 2000 h.number h.refused_there
 
   deeper : (tree : Trees) → IsDerivationOf t units tree → IsTooDeep t (symbols_in tokens) 2000 → 2000 < depth t tree
   deeper tree d deep = deep_there t checked tree 2000 d.derived (subst (λ ss. IsTooDeep t ss 2000) (sym (yields_them tree d)) deep)

@@ -23,7 +23,7 @@ use vd_valid_shapes::read_design93;
 const DEEP: u32 = 2000;
 
 /// The rows and claims of the grammar.
-fn lists() -> Lists
+pub fn lists() -> Lists
     ensures { AreTheLists result }
 {
     Lists {

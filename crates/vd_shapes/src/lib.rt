@@ -14,3 +14,4 @@ pub use actions::Action;
 pub use reading::{GrammarEnd, read};
 pub use rows::{Lists, NEXT, Rows};
 pub use shaping::{Shaped, shape};
+pub use symbols::symbols_of;

@@ -38,7 +38,7 @@ pub(crate) fn symbol_of(kind: Kind) -> Symbol
 
 /// The symbols of the tokens in front of the end.
 #[tactic(auto, using(crate::proofs::SymbolLemmas::symbols))]
-pub(crate) fn symbols_of(alloc: Global, tokens: &Tokens) -> Result<Vec<Symbol>, AllocError>
+pub fn symbols_of(alloc: Global, tokens: &Tokens) -> Result<Vec<Symbol>, AllocError>
     ensures { IfOk result (λ symbols. symbols.items ≡ symbols_in tokens.now) }
 {
     let mut symbols = Vec::new(alloc);

@@ -1,26 +1,23 @@
 -- The tokens of a design are possible.
-use Rattle.std.specs.Prelude.{◌≡◌, ◌<◌, ℕ, suc, zero, ◌-◌, Bool, true, false, ◌&&◌, not, if◌then◌else◌, nat_eq, nat_lt, List, [], ◌∷◌, ◌++◌, length, drop, Option, Some, None, slice_index_or}
+use Rattle.std.specs.Prelude.{◌≡◌, ◌<◌, ℕ, suc, zero, ◌-◌, Bool, true, false, ◌&&◌, if◌then◌else◌, nat_eq, nat_lt, List, [], ◌∷◌, ◌++◌, drop, Option, Some, None, slice_index_or}
 use Rattle.std.specs.List.{AllByRecursion}
-use Rattle.std.proofs.Common.{refl, sym, ap, ◌∙◌, subst, arith}
+use Rattle.std.proofs.Common.{refl, sym, ap, ◌∙◌, arith}
 use Rattle.std.proofs.lemmas.Bool.{and_parts, false≢true}
-use Rattle.vd_bytes.specs.declared.places.Place.{Place}
 use Rattle.vd_trees.specs.declared.revision.Revision.TheVariants.{V1993}
-use Rattle.vd_trees.specs.Words.{reserved_words}
 use Rattle.vd_tokens.specs.declared.kinds.Kind.{Kind}
 use Rattle.vd_tokens.specs.declared.kinds.Kind.TheVariants as kind
 use Rattle.vd_tokens.specs.Lexemes.{Lexeme}
-use Rattle.vd_tokens.specs.Marks.{marks}
 use Rattle.vd_tokens.specs.Spellings.{IsTextOf, IsPossible, EndsOnce}
 use Rattle.vd_forest.specs.Forest.{Forest, nothing, more}
 use Rattle.vd_forms.specs.declared.form.Form.{Form}
 use Rattle.vd_forms.specs.declared.form.Form.TheVariants as form
 use Rattle.vd_forms.specs.Forms.{same_form}
-use Rattle.vd_forms.specs.Validity.{leaf_kind, IsTextAt, HasText, keeps_brackets, AreValid, IsDesign}
+use Rattle.vd_forms.specs.Validity.{leaf_kind, IsTextAt, HasText, keeps_brackets, AreValid}
 use Rattle.vd_templates.specs.declared.pieces.Piece.{Piece}
 use Rattle.vd_templates.specs.declared.pieces.Piece.TheVariants.{Of, AnyOther, Token, Own, Itself, Part, Listed, Parts, Nothing, EndLine, Inward, Outward}
 use Rattle.vd_templates.specs.declared.rows.TheConstants.{TEMPLATES}
 use Rattle.vd_templates.specs.declared.states.TheConstants.{AS_IT_IS}
-use Rattle.vd_templates.specs.Templates.{up_to_head, behind_heads, row_in, row_of, Item, token, end_line, inward, outward, kind_at, own, Written, unwritten, all_written, all_listed, row_items, piece_items, as_it_is, tree_items, written, items_of, lexeme, tokens_in, tokens_of}
+use Rattle.vd_templates.specs.Templates.{up_to_head, behind_heads, row_in, row_of, Item, token, end_line, inward, outward, kind_at, own, Written, unwritten, all_written, all_listed, row_items, piece_items, as_it_is, tree_items, written, items_of, lexeme, tokens_in}
 use Rattle.vd_templates.specs.Laws.{ArePossible, EndOnce}
 
 -- ---- words and marks of 1993
