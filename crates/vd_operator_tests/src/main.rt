@@ -1,56 +1,67 @@
-//! Computes cases of the predefined operators and compares the results with those that stand behind them. The words are files of cases, a
-//! line each: `OPERATOR | ARGUMENT.. | RESULT | the expression in VHDL`. `tools/operator-cases` writes them.
+//! Compares what operators give with a table on standard input, which `tools/operator-cases` writes from the standards. Each line that differs is
+//! printed, and at the end how many there are. Then come defaults of subtypes, subtypes with constraints, and arrays, which the stored output has from
+//! the standards too.
 #![tactic(auto)]
 
+mod names;
 mod operators;
-mod types;
+mod shapes;
 mod values;
 
 use crate::operators::operator_of;
-use crate::values::{Wanted, value_of, wanted_of};
+use crate::values::{Given, wanted};
 use anyhow::bail;
-use std::{env, fs};
-use vd_composites::Value;
+use std::alloc::Global;
+use std::io::{BufRead, BufReader};
+use vd_composites::{Value, ValueEnd};
 use vd_operators::apply;
 
-/// Whether the result of a case is the one that stands behind it.
-fn agrees(rt: HostRuntime, line: &str) -> anyhow::Result<bool> {
-    let fields: Vec<&str> = line.split(" | ").collect(rt.alloc())?;
-    let [operator, arguments, result, ..] = fields.as_slice() else {
-        bail!("a case has four fields");
+/// Whether a line says what its operator gives.
+fn agrees(alloc: Global, line: &str) -> anyhow::Result<bool> {
+    let Some((left, right)) = line.split_once(" = ") else {
+        bail!("a line has no result");
     };
-    let words: Vec<&str> = operator.split_whitespace().collect(rt.alloc())?;
-    let mut values: Vec<Value> = Vec::new(rt.alloc());
-    for word in arguments.split_whitespace() {
-        values.push(value_of(rt.alloc(), word)?)?;
-    }
-    let Some(op) = operator_of(rt.alloc(), &words)? else {
-        bail!("there is no such operator");
+    let Some((result, _)) = right.split_once(" ; ") else {
+        bail!("a line has no expression");
     };
-    let wanted: Wanted = wanted_of(rt.alloc(), result)?;
-    Ok(wanted.is(&apply(rt.alloc(), &op, &values)))
-}
-
-/// Says which cases of a file differ, and how many there are.
-fn compare(rt: HostRuntime, name: &str, text: &str) -> anyhow::Result<()> {
-    let mut count: usize = 0;
-    let mut wrong: usize = 0;
-    for line in text.lines() {
-        count = count.saturating_add(1);
-        if !agrees(rt, line)? {
-            wrong = wrong.saturating_add(1);
-            println!(rt; "{name}:{count}: {line}")?;
+    let mut words = left.split(' ');
+    let Some(name) = words.next() else {
+        bail!("a line has no operator");
+    };
+    let Some(operator) = operator_of(alloc, name)? else {
+        bail!("there is no operator {name}");
+    };
+    let mut operands: Vec<Value> = Vec::new(alloc);
+    for word in words {
+        match wanted(alloc, word)? {
+            Given::Something(value) => operands.push(value)?,
+            Given::Stop(_) => bail!("an operand is a stop"),
         }
     }
-    println!(rt; "{name}: {count} cases, {wrong} differ")?;
-    Ok(())
+    let given = apply(alloc, &operator, &operands);
+    match (given, wanted(alloc, result)?) {
+        (Ok(value), Given::Something(other)) => {
+            Ok(value.equals(&other) && value.bounds() == other.bounds())
+        }
+        (Err(ValueEnd::Stop(kind)), Given::Stop(other)) => Ok(kind == other),
+        _ => Ok(false),
+    }
 }
 
 fn main(rt: HostRuntime) -> anyhow::Result<()> {
-    let words: Vec<String> = env::args(&rt)?.skip(1).collect(rt.alloc())?;
-    for name in &words {
-        let text = fs::read_to_string(&rt, name)?;
-        compare(rt, name, &text)?;
+    let mut cases: usize = 0;
+    let mut wrong: usize = 0;
+    for line in BufReader::new(rt.alloc(), rt.stdin())?.lines(rt.alloc()) {
+        let line = line?;
+        cases = cases.saturating_add(1);
+        if !agrees(rt.alloc(), &line)? {
+            wrong = wrong.saturating_add(1);
+            println!(rt; "{line}")?;
+        }
+    }
+    println!(rt; "{cases} cases, {wrong} differ")?;
+    for line in shapes::lines(rt.alloc())? {
+        println!(rt; "{line}")?;
     }
     Ok(())
 }

@@ -1,91 +1,78 @@
-//! Values as they are written in a case: `i5`, `t5`, `l3`, `aLEFT:RIGHT:u:ELEMENTS`, `stop KIND`.
+//! Values and stops as the table writes them.
 
 use anyhow::bail;
 use std::alloc::Global;
-use vd_composites::{Bounds, Items, Value, ValueEnd};
+use vd_composites::{Bounds, Items, Value};
 use vd_values::{Scalar, StopKind};
 
-/// What is wanted of a case.
+/// What a line gives as a result.
 #[derive(Drop)]
-pub enum Wanted {
-    Result(Value),
+pub enum Given {
+    Something(Value),
     Stop(StopKind),
 }
 
-impl Wanted {
-    /// Whether this is what came. Arrays have equal bounds too.
-    pub fn is(&self, came: &Result<Value, ValueEnd>) -> bool {
-        match (self, came) {
-            (Wanted::Result(value), Ok(result)) => {
-                value.equals(result) && value.bounds() == result.bounds()
-            }
-            (Wanted::Stop(kind), Err(ValueEnd::Stop(found))) => *kind == *found,
-            _ => false,
-        }
+/// A scalar value: `i5`, `t5` or `l5`.
+fn scalar(text: &str) -> anyhow::Result<Scalar> {
+    if let Some(digits) = text.strip_prefix('i') {
+        return Ok(Scalar::Integer(digits.parse::<i32>()?));
     }
+    if let Some(digits) = text.strip_prefix('t') {
+        return Ok(Scalar::Time(digits.parse::<u64>()?));
+    }
+    if let Some(digits) = text.strip_prefix('l') {
+        return Ok(Scalar::Literal(digits.parse::<u32>()?));
+    }
+    bail!("there is no value {text}");
 }
 
-/// A scalar value.
-fn scalar_of(word: &str) -> anyhow::Result<Scalar> {
-    if let Some(digits) = word.strip_prefix('i') {
-        return Ok(Scalar::Integer(digits.parse()?));
-    }
-    if let Some(digits) = word.strip_prefix('t') {
-        return Ok(Scalar::Time(digits.parse()?));
-    }
-    if let Some(digits) = word.strip_prefix('l') {
-        return Ok(Scalar::Literal(digits.parse()?));
-    }
-    bail!("no scalar value")
-}
-
-/// An array, by what stands behind its `a`.
-fn array_of(alloc: Global, word: &str) -> anyhow::Result<Value> {
-    let fields: Vec<&str> = word.split(":").collect(alloc)?;
-    let [left, right, direction, elements] = fields.as_slice() else {
-        bail!("no array");
+/// An array: `3:4:u:l1,l0`.
+fn array(alloc: Global, text: &str) -> anyhow::Result<Value> {
+    let mut parts = text.split(':');
+    let (Some(left), Some(right), Some(direction), Some(elements)) = (
+        parts.next(),
+        parts.next(),
+        parts.next(),
+        parts.next(),
+    ) else {
+        bail!("there is no array {text}");
     };
     let bounds = Bounds {
-        left: left.parse()?,
-        right: right.parse()?,
-        down: *direction == "d",
+        left: left.parse::<i64>()?,
+        right: right.parse::<i64>()?,
+        down: direction == "d",
     };
     let mut items = Items::new(alloc);
-    for element in elements.split(",") {
-        if !element.is_empty() {
-            items.push_scalar(scalar_of(element)?)?;
+    if !elements.is_empty() {
+        for element in elements.split(',') {
+            items.push_scalar(scalar(element)?)?;
         }
     }
     match items.array(alloc, bounds) {
-        Ok(array) => Ok(array),
-        Err(_) => bail!("an array has as many elements as its bounds say"),
+        Ok(value) => Ok(value),
+        Err(_) => bail!("the array {text} has other bounds"),
     }
 }
 
-/// A value.
-pub fn value_of(alloc: Global, word: &str) -> anyhow::Result<Value> {
-    match word.strip_prefix('a') {
-        Some(rest) => array_of(alloc, rest),
-        None => Ok(Value::scalar(alloc, scalar_of(word)?)?),
+/// The kind of a stop.
+fn stop(text: &str) -> anyhow::Result<StopKind> {
+    match text {
+        "Range" => Ok(StopKind::Range),
+        "Index" => Ok(StopKind::Index),
+        "Length" => Ok(StopKind::Length),
+        "Overflow" => Ok(StopKind::Overflow),
+        "DivideByZero" => Ok(StopKind::DivideByZero),
+        _ => bail!("there is no stop {text}"),
     }
 }
 
-/// A kind of stop.
-fn kind_of(word: &str) -> anyhow::Result<StopKind> {
-    Ok(match word {
-        "Range" => StopKind::Range,
-        "Index" => StopKind::Index,
-        "Length" => StopKind::Length,
-        "Overflow" => StopKind::Overflow,
-        "DivideByZero" => StopKind::DivideByZero,
-        _ => bail!("no kind of stop"),
-    })
-}
-
-/// What is wanted.
-pub fn wanted_of(alloc: Global, words: &str) -> anyhow::Result<Wanted> {
-    match words.strip_prefix("stop ") {
-        Some(kind) => Ok(Wanted::Stop(kind_of(kind)?)),
-        None => Ok(Wanted::Result(value_of(alloc, words)?)),
+/// A value or a stop.
+pub fn wanted(alloc: Global, text: &str) -> anyhow::Result<Given> {
+    if let Some(kind) = text.strip_prefix("stop ") {
+        return Ok(Given::Stop(stop(kind)?));
     }
+    if let Some(rest) = text.strip_prefix('a') {
+        return Ok(Given::Something(array(alloc, rest)?));
+    }
+    Ok(Given::Something(Value::scalar(alloc, scalar(text)?)?))
 }

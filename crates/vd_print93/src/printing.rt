@@ -1,16 +1,29 @@
 //! A tree as text.
 
 ghost use Rattle.std.specs.Prelude.{◌≡◌, IfOk};
+ghost use Rattle.vd_forms.specs.Validity.{IsDesign};
 ghost use Rattle.vd_print93.specs.Layout.{layout_of};
+ghost use Rattle.vd_print93.specs.PrintReading.{PrintReadsBack};
+ghost use Rattle.vd_trees.specs.declared.revision.Revision.TheVariants.{V1993};
 
 use crate::layout::{Layout, write_item};
 use std::alloc::{AllocError, Global};
 use vd_forms::Design93;
 use vd_writing::Items;
 
-/// The text of a design.
+/// The text of a design, laid out in lines. It is read as the tokens of the design where no apostrophe stands behind the words `range`
+/// and `all` in these.
 pub fn print(alloc: Global, design: &Design93) -> Result<Vec<u8>, AllocError>
-    ensures { IfOk result (λ bytes. bytes.items ≡ layout_of design.now) }
+    ensures laid_out { IfOk result (λ bytes. bytes.items ≡ layout_of design.now) }
+    ensures reads_back { IfOk result (λ bytes. PrintReadsBack design.now bytes.items) }
+{
+    lay_out(alloc, design)
+}
+
+/// The text of a design, item by item.
+fn lay_out(alloc: Global, design: &Design93) -> Result<Vec<u8>, AllocError>
+    ensures laid_out { IfOk result (λ bytes. bytes.items ≡ layout_of design.now) }
+    ensures valid { IsDesign V1993 design.now }
 {
     let mut items = Items::of(alloc, design)?;
     let mut out = Vec::new(alloc);

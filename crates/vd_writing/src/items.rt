@@ -1,6 +1,8 @@
 //! What is written of some trees, item by item.
 
 ghost use Rattle.std.specs.Prelude.{◌≡◌, ◌++◌, [], IfOk, None};
+ghost use Rattle.vd_forms.specs.Validity.{IsDesign};
+ghost use Rattle.vd_trees.specs.declared.revision.Revision.TheVariants.{V1993};
 ghost use Rattle.vd_templates.specs.Templates.{all_written, items_of};
 ghost use Rattle.vd_writing.specs.Pending.{written_by, shown};
 
@@ -61,7 +63,8 @@ impl<'a> Items<'a> {
 
     /// The items of a design.
     pub fn of(alloc: Global, design: &'a Design93) -> Result<Items<'a>, AllocError>
-        ensures { IfOk result (λ items. items ≡ items_of design.now) }
+        ensures items { IfOk result (λ items. items ≡ items_of design.now) }
+        ensures valid { IsDesign V1993 design.now }
     {
         let units = design.units();
         Items::by(alloc, TEMPLATES, &units)

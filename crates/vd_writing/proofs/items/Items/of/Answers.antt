@@ -3,5 +3,5 @@ use Rattle.vd_templates.specs.Templates.{written, all_written}
 use Rattle.vd_writing.proofs.TableLemmas.{written_same}
 use Rattle.vd_writing.proofs.items.Items.of.Goals as goal
 
-pub returns : goal.returns
-returns c = subst (λ ws. IfOk c.by.result (λ items. items ≡ all_written ws)) (written_same c.units-units.result ∙ ap written c.units-units.ensures.units) c.by.ensures
+pub returns-clause-items : goal.returns-clause-items
+returns-clause-items c = subst (λ ws. IfOk c.by.result (λ items. items ≡ all_written ws)) (written_same c.units-units.result ∙ ap written c.units-units.ensures.units) c.by.ensures

@@ -1,6 +1,6 @@
 use Rattle.std.proofs.Common.{◌≡◌, ◌++◌, length}
 use Rattle.vd_print93.specs.Layout.{bytes_from, layout_of}
-use Rattle.vd_print93.proofs.printing.print.Given as goal
+use Rattle.vd_print93.proofs.printing.lay_out.Given as goal
 
 abbrev pub invariant-loop-out : goal.invariant-loop-out
 invariant-loop-out l = l.out.items ++ bytes_from l.layout l.items ≡ layout_of l.fn.design
