@@ -1,9 +1,11 @@
 //! Compares what operators give with a table on standard input, which `tools/operator-cases` writes from the standards. Each line that differs is
-//! printed, and at the end how many there are.
+//! printed, and at the end how many there are. Then come defaults of subtypes, subtypes with constraints, and arrays, which the stored output has from
+//! the standards too.
 #![tactic(auto)]
 
 mod names;
 mod operators;
+mod shapes;
 mod values;
 
 use crate::operators::operator_of;
@@ -58,5 +60,8 @@ fn main(rt: HostRuntime) -> anyhow::Result<()> {
         }
     }
     println!(rt; "{cases} cases, {wrong} differ")?;
+    for line in shapes::lines(rt.alloc())? {
+        println!(rt; "{line}")?;
+    }
     Ok(())
 }
