@@ -1,9 +1,6 @@
 -- The bounds of so many elements, as code finds them.
-use Rattle.std.proofs.Common.{◌≡◌, ◌<◌, ◌≤◌, ◌^◌, ℕ, zero, suc, ◌+◌, ◌-◌, ℤ, pos, negsuc, Bool, true, false, List, ◌∷◌, ◌++◌, Some, None, refl, sym, ap, ◌∙◌, subst, arith, w64, SFits, to_z, of_z}
-use Rattle.std.specs.Int.{w128}
-use Rattle.std.proofs.lemmas.Int.{ints, to_z-of_z}
-use Rattle.std.proofs.lemmas.Bool.Decides.{nat_tests}
-use Rattle.std.specs.Prelude.{int_le, ◌&&◌, ◌==◌, Ok, Err, if◌then◌else◌}
+use Rattle.std.proofs.Common.{◌≡◌, ◌<◌, ◌≤◌, ℕ, zero, suc, ◌+◌, ℤ, Bool, true, false, List, ◌∷◌, ◌++◌, Some, refl, sym, ap, ◌∙◌, arith}
+use Rattle.std.specs.Prelude.{◌==◌, Ok, Err, if◌then◌else◌}
 use Rattle.vd_values.specs.declared.scalar.Scalar.{Scalar}
 use Rattle.vd_values.specs.declared.scalar.StopKind.{StopKind}
 use Rattle.vd_values.specs.declared.scalar.StopKind.TheVariants.{Range, Index}
@@ -13,20 +10,19 @@ use Rattle.vd_composites.specs.Answers.{Ends}
 use Rattle.vd_composites.specs.declared.nodes.Node.{Node}
 use Rattle.vd_composites.specs.declared.nodes.Node.TheVariants.{Array as ArrayNode, Right, Fields as FieldsNode}
 use Rattle.vd_composites.specs.Stops.{OrStop}
-use Rattle.vd_composites.specs.Composites.{Value, Array, Fields, Items, count, joined}
+use Rattle.vd_composites.specs.Composites.{Value, Array, Fields, count, joined}
 use Rattle.vd_composites.specs.Parts.{array_of}
 use Rattle.vd_composites.specs.Subtypes.{indexed}
 use Rattle.vd_composites.specs.Concatenations.{array_on}
 use Rattle.vd_composites.proofs.ItemLemmas.{first_all}
-use Rattle.vd_composites.proofs.NodeLemmas.{after_both, after_more, counted, read_both, bounds_same}
+use Rattle.vd_composites.proofs.NodeLemmas.{after_both, after_more, counted, read_both}
 use Rattle.vd_composites.specs.declared.ranges.Bounds.{Bounds}
 use Rattle.vd_composites.specs.declared.scalars.ScalarSubtype.{ScalarSubtype}
 use Rattle.vd_composites.specs.declared.scalars.ScalarType.TheVariants.{Integers}
-use Rattle.vd_composites.specs.Ranges.{length_of, is_within, lies_within, index_at, steps_on, one_before, from_left}
+use Rattle.vd_composites.specs.Ranges.{length_of, lies_within, from_left}
 use Rattle.vd_composites.specs.Nodes.{bounds_from, after, read, value_in}
-use Rattle.vd_composites.proofs.RangeLemmas.{both_true, index_within}
 use Rattle.vd_composites.proofs.StopLemmas.{ok_same, not_true, if_true, if_false, same_test, no_test}
-use Rattle.vd_composites.proofs.ConcatenationLaws.{some_lie, fewer_lie, all_lie, one_back, no_step}
+use Rattle.vd_composites.proofs.ConcatenationLaws.{some_lie, all_lie}
 
 abbrev indexed_by : Bounds → ScalarSubtype
 indexed_by b = record { of_type = Integers; range = b }

@@ -1,5 +1,5 @@
 -- Nodes and the items that they make.
-use Rattle.std.proofs.Common.{◌≡◌, ◌<◌, ◌≤◌, ℕ, zero, suc, ◌+◌, List, [], ◌∷◌, ◌++◌, length, take, drop, ◌-◌, Option, Some, None, refl, sym, ap, ◌∙◌, subst, arith}
+use Rattle.std.proofs.Common.{◌≡◌, ◌<◌, ◌≤◌, ℕ, zero, suc, ◌+◌, List, [], ◌∷◌, ◌++◌, length, take, drop, ◌-◌, Some, refl, sym, ap, ◌∙◌, subst, arith}
 use Rattle.std.proofs.lemmas.List.{take-append-drop, length-drop}
 use Rattle.std.proofs.Math.Seq.{take-add}
 use Rattle.vd_values.specs.declared.scalar.Scalar.{Scalar}
@@ -8,9 +8,9 @@ use Rattle.vd_composites.specs.declared.ranges.Bounds.{Bounds}
 use Rattle.vd_composites.specs.declared.nodes.Node.{Node}
 use Rattle.vd_composites.specs.declared.nodes.Node.TheVariants.{Integer, Literal, Time, Array as ArrayNode, Right, Fields as FieldsNode}
 use Rattle.vd_composites.specs.Ranges.{length_of}
-use Rattle.vd_composites.specs.Composites.{Value, One, Array, Fields, Items, none, item, count, joined, without, first_of}
+use Rattle.vd_composites.specs.Composites.{One, Array, Fields, Items, none, item, count, joined, without, first_of}
 use Rattle.vd_composites.specs.Nodes.{bounds_from, array_in_front, record_in_front, read, after, width_of, parts_in, bounds_in}
-use Rattle.vd_composites.proofs.ItemLemmas.{count_without, first_joined, without_joined}
+use Rattle.vd_composites.proofs.ItemLemmas.{count_without}
 
 pub some_same : (m n : ℕ) → Some m ≡ Some n → m ≡ n
 some_same m n h = cc

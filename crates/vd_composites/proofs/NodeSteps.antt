@@ -3,13 +3,12 @@ use Rattle.std.proofs.Common.{◌≡◌, ◌<◌, ◌≤◌, ℕ, zero, suc, ◌
 use Rattle.std.proofs.lemmas.List.{length-drop, take-append-drop}
 use Rattle.std.proofs.Math.Seq.{take-length}
 use Rattle.vd_composites.specs.declared.nodes.Node.{Node}
-use Rattle.vd_values.specs.declared.scalar.Scalar.{Scalar}
-use Rattle.vd_composites.specs.Composites.{Items, count, joined, without, first_of, written}
+use Rattle.vd_composites.specs.Composites.{count, joined, without, first_of, written}
 use Rattle.vd_composites.specs.declared.nodes.Node.TheVariants.{Integer, Literal, Time, Array as ArrayNode, Right, Fields as FieldsNode}
 use Rattle.vd_composites.specs.Ranges.{length_of}
 use Rattle.vd_composites.specs.Nodes.{bounds_from, after, read, width_of, parts_in}
 use Rattle.vd_composites.proofs.ItemLemmas.{first_joined, without_joined, without_more}
-use Rattle.vd_composites.proofs.NodeLemmas.{OneMore, front_more, front_rest, wanted_fit, read_both, counted, after_both, after_more}
+use Rattle.vd_composites.proofs.NodeLemmas.{front_more, front_rest, wanted_fit, read_both, counted, after_both, after_more}
 
 -- a whole tail of a list, as code takes it
 pub tail_of : (place : ℕ) (ns : List Node) → take (length ns - place) (drop place ns) ≡ drop place ns

@@ -1,5 +1,5 @@
 -- Values with a part replaced, as code makes them.
-use Rattle.std.proofs.Common.{◌≡◌, ◌<◌, ◌≤◌, ℕ, zero, suc, ◌+◌, ◌-◌, ℤ, Bool, true, false, List, [], ◌∷◌, ◌++◌, length, take, drop, Some, None, refl, sym, ap, ◌∙◌, subst, arith}
+use Rattle.std.proofs.Common.{◌≡◌, ◌<◌, ◌≤◌, ℕ, zero, suc, ◌+◌, ◌-◌, ℤ, true, false, List, [], ◌∷◌, ◌++◌, length, take, drop, Some, None, refl, sym, ap, ◌∙◌, arith}
 use Rattle.std.specs.Prelude.{Ok, Err, ◌==◌, if◌then◌else◌}
 use Rattle.vd_values.specs.declared.scalar.Scalar.{Scalar}
 use Rattle.vd_values.specs.declared.scalar.StopKind.{StopKind}
@@ -7,9 +7,9 @@ use Rattle.vd_values.specs.declared.scalar.StopKind.TheVariants.{Range, Index, L
 use Rattle.vd_composites.specs.declared.ranges.Bounds.{Bounds}
 use Rattle.vd_composites.specs.declared.nodes.Node.{Node}
 use Rattle.vd_composites.specs.declared.nodes.Node.TheVariants.{Integer as IntegerNode, Literal as LiteralNode, Time as TimeNode, Array as ArrayNode, Right, Fields as FieldsNode}
-use Rattle.vd_composites.specs.Stops.{OrStop, ◌>>=◌}
+use Rattle.vd_composites.specs.Stops.{◌>>=◌}
 use Rattle.vd_composites.specs.Ranges.{length_of, is_within, place_of}
-use Rattle.vd_composites.specs.Composites.{Value, One, Array, Fields, Items, none, item, count, without, first_of, written}
+use Rattle.vd_composites.specs.Composites.{Value, Array, Fields, Items, none, item, count, without, first_of, written}
 use Rattle.vd_composites.specs.Parts.{Step, AtIndex, AtSlice, AtField, part, array_of, is_slice, with_new, with_part, with_slice}
 use Rattle.vd_composites.specs.Nodes.{read, after, value_in, bounds_in, slice_start}
 use Rattle.vd_composites.specs.Answers.{Replaces}
@@ -18,10 +18,10 @@ use Rattle.vd_composites.proofs.ItemLemmas.{first_all, count_first, count_withou
 use Rattle.vd_composites.proofs.NodeLemmas.{counted}
 use Rattle.std.proofs.lemmas.Bool.Decides.{nat_tests}
 use Rattle.vd_composites.proofs.NodeSteps.{tail_of}
-use Rattle.vd_composites.proofs.PartLaws.{Lies, lies}
+use Rattle.vd_composites.proofs.PartLaws.{lies}
 use Rattle.vd_composites.proofs.SliceLemmas.{start_fits}
 use Rattle.vd_composites.proofs.StopLemmas.{if_true, if_false, same_test, no_test}
-use Rattle.vd_composites.proofs.ValueLemmas.{IsArray, is_array, IsRecord, element_read_is, field_read_is}
+use Rattle.vd_composites.proofs.ValueLemmas.{IsArray, IsRecord, element_read_is, field_read_is}
 
 -- where a part stops, so does the value with it replaced
 pub stops_too : (step : Step) (new v : Value Scalar) (e : StopKind) → part step v ≡ Err e → with_part step new v ≡ Err e

@@ -1,5 +1,5 @@
 -- Slices as code takes them.
-use Rattle.std.proofs.Common.{◌≡◌, ◌<◌, ◌≤◌, ℕ, zero, suc, ◌+◌, ◌-◌, Bool, true, false, List, [], ◌∷◌, ◌++◌, length, take, drop, Some, refl, sym, ap, ◌∙◌, subst, arith}
+use Rattle.std.proofs.Common.{◌≡◌, ◌<◌, ◌≤◌, ℕ, zero, suc, ◌+◌, ◌-◌, true, false, List, [], ◌∷◌, length, take, drop, Some, refl, sym, ap, ◌∙◌, subst, arith}
 use Rattle.std.proofs.lemmas.Bool.Decides.{nat_tests}
 use Rattle.std.specs.Prelude.{Ok, Err, ◌==◌, if◌then◌else◌}
 use Rattle.vd_values.specs.declared.scalar.Scalar.{Scalar}
@@ -8,14 +8,14 @@ use Rattle.vd_composites.specs.declared.ranges.Bounds.{Bounds}
 use Rattle.vd_composites.specs.declared.nodes.Node.{Node}
 use Rattle.vd_composites.specs.declared.nodes.Node.TheVariants.{Array as ArrayNode, Right}
 use Rattle.vd_composites.specs.Ranges.{length_of, place_of}
-use Rattle.vd_composites.specs.Composites.{Value, Array, Items, count, without, first_of}
+use Rattle.vd_composites.specs.Composites.{Array, Items, count, without, first_of}
 use Rattle.vd_composites.specs.Parts.{array_of, is_slice, AtSlice, part}
 use Rattle.vd_composites.specs.Nodes.{read, after, value_in, slice_start}
 use Rattle.vd_composites.specs.Answers.{HasItems}
 use Rattle.vd_composites.proofs.ItemLemmas.{first_all}
 use Rattle.vd_composites.proofs.NodeLemmas.{counted}
 use Rattle.vd_composites.proofs.NodeSteps.{tail_of}
-use Rattle.vd_composites.proofs.PartLaws.{Lies, lies}
+use Rattle.vd_composites.proofs.PartLaws.{lies}
 use Rattle.vd_composites.proofs.StopLemmas.{if_true, same_test}
 use Rattle.vd_composites.proofs.ValueLemmas.{IsArray}
 

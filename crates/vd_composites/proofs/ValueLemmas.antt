@@ -1,6 +1,5 @@
 -- What the nodes of a value say of it.
-use Rattle.std.proofs.Common.{◌≡◌, ◌<◌, ◌≤◌, ℕ, zero, suc, ◌+◌, ◌-◌, ℤ, Bool, true, false, List, [], ◌∷◌, ◌++◌, length, take, drop, Option, Some, None, refl, sym, ap, ◌∙◌, subst, arith}
-use Rattle.std.proofs.lemmas.List.{length-drop}
+use Rattle.std.proofs.Common.{◌≡◌, ◌<◌, ◌≤◌, ℕ, zero, suc, ◌+◌, ◌-◌, ℤ, true, false, List, [], ◌∷◌, length, take, drop, Option, Some, None, refl, sym, ap, ◌∙◌, subst, arith}
 use Rattle.std.specs.Prelude.{Result, Ok, Err, Vec, IfOk, ◌==◌, slice_set}
 use Rattle.std.specs.Global.{Global}
 use Rattle.vd_composites.specs.declared.ends.ValueEnd.{ValueEnd}
@@ -11,8 +10,8 @@ use Rattle.vd_composites.specs.declared.nodes.Node.{Node}
 use Rattle.vd_composites.specs.declared.nodes.Node.TheVariants.{Integer, Literal, Time, Array as ArrayNode, Right, Fields as FieldsNode}
 use Rattle.vd_composites.specs.Stops.{OrStop}
 use Rattle.vd_composites.specs.Ranges.{length_of, is_within, place_of, lies_within}
-use Rattle.vd_composites.specs.Composites.{Value, One, Array, Fields, Items, none, item, count, joined, without, first_of}
-use Rattle.vd_composites.specs.Parts.{misshapen, first_item, item_at, element, array_of, is_slice, slice, Step, AtIndex, AtSlice, AtField, part}
+use Rattle.vd_composites.specs.Composites.{Value, One, Array, Fields, Items, none, item, count, without, first_of}
+use Rattle.vd_composites.specs.Parts.{first_item, item_at, array_of, AtIndex, AtSlice, AtField, part}
 use Rattle.vd_composites.specs.Nodes.{bounds_from, read, after, value_in, bounds_in, fields_in, scalar_in}
 use Rattle.vd_composites.specs.Composites.{scalar_of, bounds_of, items_in}
 use Rattle.vd_composites.specs.Scalars.{belongs}

@@ -1,27 +1,24 @@
 -- Arrays of discrete elements and equal values, over their nodes.
-use Rattle.std.proofs.Common.{◌≡◌, ◌<◌, ◌≤◌, ℕ, zero, suc, ◌+◌, ◌-◌, ℤ, pos, Bool, true, false, List, [], ◌∷◌, ◌++◌, length, take, drop, map, get_or, Option, Some, None, refl, sym, ap, ◌∙◌, subst, arith, append_assoc, drop-drop}
+use Rattle.std.proofs.Common.{◌≡◌, ◌<◌, ◌≤◌, ℕ, zero, suc, ◌+◌, ◌-◌, ℤ, pos, Bool, true, false, List, [], ◌∷◌, ◌++◌, length, take, drop, map, get_or, Some, refl, sym, ap, ◌∙◌, subst, arith, append_assoc, drop-drop}
 use Rattle.std.proofs.Math.Seq.{drop-cons}
 use Rattle.std.proofs.lemmas.List.{length-drop}
-use Rattle.std.specs.Prelude.{Result, Ok, Err, ◌==◌, ◌&&◌}
+use Rattle.std.specs.Prelude.{Ok, Err, ◌==◌, ◌&&◌}
 use Rattle.vd_values.specs.declared.scalar.Scalar.{Scalar}
 use Rattle.vd_values.specs.declared.scalar.StopKind.{StopKind}
-use Rattle.vd_values.specs.declared.scalar.StopKind.TheVariants.{Range}
-use Rattle.vd_values.specs.declared.scalar.Scalar.TheVariants.{Integer as OfInteger, Literal as OfLiteral, Time as OfTime}
+use Rattle.vd_values.specs.declared.scalar.Scalar.TheVariants.{Literal as OfLiteral}
 use Rattle.vd_composites.specs.declared.ranges.Bounds.{Bounds}
 use Rattle.vd_composites.specs.declared.nodes.Node.{Node}
 use Rattle.vd_composites.specs.declared.nodes.Node.TheVariants.{Integer, Literal, Time, Array as ArrayNode, Right, Fields as FieldsNode}
 use Rattle.vd_composites.specs.Stops.{OrStop, ◌>>=◌}
 use Rattle.vd_composites.specs.Ranges.{length_of}
-use Rattle.vd_composites.specs.Scalars.{same_scalar}
-use Rattle.vd_composites.specs.Composites.{Value, One, Array, Fields, Items, none, item, count, joined, without, first_of, same_value, same_items}
-use Rattle.vd_composites.specs.Nodes.{bounds_from, array_in_front, record_in_front, read, after, value_in, width_of, bounds_in}
-use Rattle.vd_composites.specs.Parts.{misshapen, array_of}
-use Rattle.vd_composites.specs.Vectors.{discrete_position, positions_in, positions_of, literals, node_position, positions_at, First, AScalar, AnArray, ARecord, Nothing, first_in, same_first}
-use Rattle.vd_composites.proofs.ItemLemmas.{count_first, split_at, count_without}
-use Rattle.vd_composites.proofs.NodeLemmas.{some_same, counted, wanted_fit}
+use Rattle.vd_composites.specs.Composites.{One, Items, none, item, count, without, first_of, same_value, same_items}
+use Rattle.vd_composites.specs.Nodes.{bounds_from, array_in_front, record_in_front, read, after, value_in, width_of}
+use Rattle.vd_composites.specs.Vectors.{positions_in, positions_of, literals, node_position, positions_at, First, AScalar, AnArray, ARecord, Nothing, first_in, same_first}
+use Rattle.vd_composites.proofs.ItemLemmas.{count_first}
+use Rattle.vd_composites.proofs.NodeLemmas.{some_same, counted}
 use Rattle.vd_composites.proofs.NodeSteps.{tail_of}
 use Rattle.vd_composites.proofs.ValueLemmas.{IsArray}
-use Rattle.vd_composites.proofs.StopLemmas.{same_test, no_test, test_same, not_true}
+use Rattle.vd_composites.proofs.StopLemmas.{same_test, test_same}
 
 -- ---- positions
 

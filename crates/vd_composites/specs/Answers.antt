@@ -6,7 +6,7 @@ use Rattle.vd_composites.specs.declared.ends.ValueEnd.{ValueEnd}
 use Rattle.vd_composites.specs.declared.ends.ValueEnd.TheVariants.{Stop, Memory}
 use Rattle.vd_composites.specs.declared.nodes.Node.{Node}
 use Rattle.vd_composites.specs.Stops.{OrStop}
-use Rattle.vd_composites.specs.Composites.{Value, Items, without, first_of, written}
+use Rattle.vd_composites.specs.Composites.{Value, without, first_of, written}
 use Rattle.vd_composites.specs.Nodes.{read, after, value_in}
 
 -- The stop that is defined. Memory may run out at any time.

@@ -1,5 +1,5 @@
 -- The operators on INTEGER and TIME as operators on values. (IEEE 1076-2019, 9.2.6 to 9.2.9; IEEE 1076-1993, 7.2.4 to 7.2.7.)
-use Rattle.std.specs.Prelude.{ℕ, ℤ, Bool, ◌==◌, nat_le, unsigned_abs, Option, Some, None, Ok, if◌then◌else◌}
+use Rattle.std.specs.Prelude.{ℕ, ℤ, nat_le, unsigned_abs, Ok, if◌then◌else◌}
 use Rattle.vd_values.specs.declared.scalar.Scalar.{Scalar}
 use Rattle.vd_values.specs.declared.scalar.Scalar.TheVariants.{Integer as OfInteger, Time as OfTime, Literal as OfLiteral}
 use Rattle.vd_values.specs.Times.{greatest_time, time_sum, time_difference, time_product, time_quotient}

@@ -1,7 +1,6 @@
 -- Attributes of arrays, of scalar subtypes and of discrete types. (IEEE 1076-2019, 16.2; IEEE 1076-1993, 14.1.)
-use Rattle.std.specs.Prelude.{ℤ, pos, ◌+ℤ◌, ◌-ℤ◌, int_le, Bool, Option, Some, None, Ok, if◌then◌else◌}
+use Rattle.std.specs.Prelude.{ℤ, pos, ◌+ℤ◌, ◌-ℤ◌, int_le, Bool, Ok, if◌then◌else◌}
 use Rattle.vd_values.specs.declared.scalar.Scalar.{Scalar}
-use Rattle.vd_values.specs.declared.scalar.Scalar.TheVariants.{Integer as OfInteger}
 use Rattle.vd_integers.specs.Integers.{integer_of}
 use Rattle.vd_composites.specs.declared.ranges.Bounds.{Bounds}
 use Rattle.vd_composites.specs.declared.scalars.ScalarType.{ScalarType}

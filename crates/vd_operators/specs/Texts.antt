@@ -1,6 +1,6 @@
 -- What 'image and `to_string` write. (IEEE 1076-2019, 5.7 and 16.2; IEEE 1076-1993, 14.1.) A text is a value of STRING with the bounds 1 to n; the position of a
 -- character in its type is its code.
-use Rattle.std.specs.Prelude.{ℕ, ◌+◌, nat_le, ◌&&◌, ℤ, List, [], ◌∷◌, length, map, slice_get, Ok, if◌then◌else◌}
+use Rattle.std.specs.Prelude.{ℕ, ◌+◌, nat_le, ◌&&◌, List, [], ◌∷◌, length, map, slice_get, Ok, if◌then◌else◌}
 use Rattle.std.specs.Fmt.{signed_decimal}
 use Rattle.vd_values.specs.declared.scalar.Scalar.{Scalar}
 use Rattle.vd_values.specs.declared.scalar.Scalar.TheVariants.{Integer as OfInteger, Time as OfTime, Literal as OfLiteral}

@@ -1,3 +1,4 @@
 mod HeadLemmas
 mod NodeLemmas
 mod StackLemmas
+mod PositionalLemmas

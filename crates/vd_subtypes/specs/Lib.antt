@@ -1,5 +1,6 @@
 pub mod Heads
 pub mod Operands
+pub mod Positional
 pub mod Laws
 pub mod Nodes
 pub mod Codes

@@ -1,6 +1,5 @@
 -- Evaluations one after another, of which one stops or memory runs out.
-use Rattle.std.proofs.Common.{◌≡◌, ap}
-use Rattle.std.specs.Prelude.{Ok}
+use Rattle.std.proofs.Common.{ap}
 use Rattle.vd_composites.specs.declared.ends.ValueEnd.{ValueEnd}
 use Rattle.vd_composites.specs.declared.ends.ValueEnd.TheVariants.{Stop, Memory}
 use Rattle.vd_composites.specs.Stops.{OrStop, ◌>>=◌}

@@ -1,5 +1,5 @@
 -- What the functions of the support package give.
-use Rattle.std.proofs.Common.{◌≡◌, ◌<◌, ◌≤◌, ℕ, zero, suc, ◌+◌, ◌-◌, ◌*◌, ◌%◌, Bool, true, false, List, [], ◌∷◌, ◌++◌, length, take, drop, get_or, min, refl, sym, ap, ◌∙◌, inl, inr, arith, length-append, length-drop, length-take}
+use Rattle.std.proofs.Common.{◌≡◌, ◌<◌, ◌≤◌, ℕ, zero, suc, ◌+◌, ◌-◌, ◌*◌, ◌%◌, true, false, List, [], ◌∷◌, ◌++◌, length, take, drop, get_or, min, refl, sym, ap, ◌∙◌, inl, inr, arith, length-drop}
 use Rattle.std.proofs.lemmas.List.{length-replicate}
 use Rattle.std.proofs.lemmas.Nat.{mod-mul-add, mod_below, div-add-mod'}
 use Rattle.std.proofs.lemmas.Bool.{cases_lt}
@@ -8,15 +8,14 @@ use lib.ListN.{replicate}
 use Rattle.std.specs.Prelude.{nat_lt, ◌/◌, if◌then◌else◌}
 use Rattle.vd_values.specs.declared.logic.Logic.{Logic}
 use Rattle.vd_values.specs.declared.logic.Logic.TheVariants.{U, X, Zero, One, Z, W, L, H, Dash}
-use Rattle.vd_values.specs.LogicTables.{and_of, or_of, xor_of}
+use Rattle.vd_values.specs.LogicTables.{and_of}
 use Rattle.vd_values.specs.Matching.{match_of, condition_of}
 use Rattle.vd_vectors.specs.declared.logical.LogicalOperator.{LogicalOperator}
-use Rattle.vd_vectors.specs.declared.logical.LogicalOperator.TheVariants.{And, Or, Xor}
 use Rattle.vd_vectors.specs.declared.shifts.ShiftOperator.TheVariants.{LogicalLeft, LogicalRight, RotateLeft, RotateRight}
-use Rattle.vd_vectors.specs.Logical.{logical_of, folded, reduced}
+use Rattle.vd_vectors.specs.Logical.{logical_of, folded}
 use Rattle.vd_vectors.specs.Shifts.{places}
 use Rattle.vd_vectors.specs.Matching.{match_all}
-use Rattle.vd_vectors.specs.Moves.{filled_left, filled_right, rotated}
+use Rattle.vd_vectors.specs.Moves.{rotated}
 use Rattle.vd_vectors.specs.Support.{vd_cond, vd_eq, vd_eqv, taken_together, vd_sll, vd_srl, vd_rol, vd_ror}
 use Rattle.vd_vectors.proofs.ShiftLemmas.{logical_left, logical_right, rotation_left, rotation_right}
 
@@ -179,15 +178,15 @@ shifts_right n xs k h =
     let long : length front ≡ m = length-replicate m Zero in
     ap (λ ys. get_or ys k Zero) (logical_right n xs) ∙ elim (cases_lt k n) [
       | inl less ↦ (
-        let t : nat_lt k n ≡ true = grind (arith, nat_tests) in
-        let inside : k < length front = omega arith in
-        in_front front back k inside ∙ all_zero m k ∙ sym (ap (λ b. if b then Zero else get_or xs (k - n) Zero) t))
+          let t : nat_lt k n ≡ true = grind (arith, nat_tests) in
+          let inside : k < length front = omega arith in
+          in_front front back k inside ∙ all_zero m k ∙ sym (ap (λ b. if b then Zero else get_or xs (k - n) Zero) t))
       | inr more ↦ (
-        let t : nat_lt k n ≡ false = grind (arith, nat_tests) in
-        let beyond : length front ≤ k = omega arith in
-        let e : k - length front ≡ k - n = omega arith in
-        second_part front back k beyond ∙ kept (length xs - m) xs (k - length front) (omega arith) ∙ ap (λ j. get_or xs j Zero) e
-        ∙ sym (ap (λ b. if b then Zero else get_or xs (k - n) Zero) t))
+          let t : nat_lt k n ≡ false = grind (arith, nat_tests) in
+          let beyond : length front ≤ k = omega arith in
+          let e : k - length front ≡ k - n = omega arith in
+          second_part front back k beyond ∙ kept (length xs - m) xs (k - length front) (omega arith) ∙ ap (λ j. get_or xs j Zero) e
+          ∙ sym (ap (λ b. if b then Zero else get_or xs (k - n) Zero) t))
     ]
 
 -- an element of a rotated list, by how far it was rotated
@@ -198,14 +197,14 @@ turned j xs k h below =
     let long : length front ≡ length xs - j = length-drop j xs in
     elim (cases_lt k (length front)) [
       | inl less ↦ (
-        let e : k + j ≡ 0 * length xs + (k + j) = omega arith in
-        let same : (k + j) % length xs ≡ k + j = ap (λ m. m % length xs) e ∙ mod-mul-add 0 (length xs) (k + j) (omega arith) in
-        in_front front back k less ∙ dropped j xs k ∙ ap (λ m. get_or xs m Zero) (sym same))
+          let e : k + j ≡ 0 * length xs + (k + j) = omega arith in
+          let same : (k + j) % length xs ≡ k + j = ap (λ m. m % length xs) e ∙ mod-mul-add 0 (length xs) (k + j) (omega arith) in
+          in_front front back k less ∙ dropped j xs k ∙ ap (λ m. get_or xs m Zero) (sym same))
       | inr more ↦ (
-        let i : ℕ = k - length front in
-        let e : k + j ≡ 1 * length xs + i = omega arith in
-        let same : (k + j) % length xs ≡ i = ap (λ m. m % length xs) e ∙ mod-mul-add 1 (length xs) i (omega arith) in
-        second_part front back k more ∙ kept j xs i (omega arith) ∙ ap (λ m. get_or xs m Zero) (sym same))
+          let i : ℕ = k - length front in
+          let e : k + j ≡ 1 * length xs + i = omega arith in
+          let same : (k + j) % length xs ≡ i = ap (λ m. m % length xs) e ∙ mod-mul-add 1 (length xs) i (omega arith) in
+          second_part front back k more ∙ kept j xs i (omega arith) ∙ ap (λ m. get_or xs m Zero) (sym same))
     ]
 
 -- a remainder in a sum

@@ -1,5 +1,5 @@
 -- Laws of the operators on logical values.
-use Rattle.std.specs.Prelude.{◌≡◌, ℤ, Bool, true, false, not, ◌&&◌, ◌||◌, List, length, map, if◌then◌else◌}
+use Rattle.std.specs.Prelude.{◌≡◌, ℤ, Bool, not, ◌&&◌, ◌||◌, List, length, if◌then◌else◌}
 use Rattle.vd_values.specs.declared.logic.Logic.{Logic}
 use Rattle.vd_values.specs.declared.logic.Logic.TheVariants.{Zero, One}
 use Rattle.vd_values.specs.LogicTables.{and_of, or_of, xor_of, not_of}

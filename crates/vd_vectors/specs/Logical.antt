@@ -1,7 +1,7 @@
 -- The logical operators. (IEEE 1076-2019, 9.2.2 and 9.2.9; IEEE 1076-1993, 7.2.1; IEEE 1164.)
 -- On BIT and BOOLEAN `and`, `or`, `nand` and `nor` look at the right operand only where it is needed. That is a matter of expressions:
 -- here both operands have been evaluated.
-use Rattle.std.specs.Prelude.{ℕ, ◌==◌, List, [], ◌∷◌, length, map, Option, Some, None, Ok, Err, if◌then◌else◌}
+use Rattle.std.specs.Prelude.{◌==◌, List, [], ◌∷◌, length, map, Option, Some, None, Ok, Err, if◌then◌else◌}
 use Rattle.vd_values.specs.declared.scalar.Scalar.{Scalar}
 use Rattle.vd_values.specs.declared.scalar.StopKind.TheVariants.{Length}
 use Rattle.vd_values.specs.declared.logic.Logic.{Logic}

@@ -1,10 +1,10 @@
 -- The matching operators and the condition operator. (IEEE 1076-2019, 9.2.3 and 9.2.9.)
-use Rattle.std.specs.Prelude.{ℕ, ◌==◌, Bool, true, false, List, [], ◌∷◌, length, Option, Some, None, Ok, Err, if◌then◌else◌}
+use Rattle.std.specs.Prelude.{◌==◌, Bool, List, [], ◌∷◌, length, Option, Some, None, Ok, Err, if◌then◌else◌}
 use Rattle.vd_values.specs.declared.scalar.Scalar.{Scalar}
 use Rattle.vd_values.specs.declared.scalar.StopKind.TheVariants.{Length}
 use Rattle.vd_values.specs.declared.logic.Logic.{Logic}
-use Rattle.vd_values.specs.declared.logic.Logic.TheVariants.{Zero, One}
-use Rattle.vd_values.specs.LogicTables.{and_of, not_of, column_of}
+use Rattle.vd_values.specs.declared.logic.Logic.TheVariants.{One}
+use Rattle.vd_values.specs.LogicTables.{and_of, not_of}
 use Rattle.vd_values.specs.Matching.{match_of, condition_of}
 use Rattle.vd_composites.specs.declared.ranges.Bounds.{Bounds}
 use Rattle.vd_composites.specs.Stops.{OrStop, ◌>>=◌}

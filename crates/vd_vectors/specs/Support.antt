@@ -1,19 +1,17 @@
 -- What the functions of the support package give, which stand in a design of VHDL-93 where the source has operators of 2019: element by element, by their places from 0. The laws
 -- say that these are the operators. (`nand`, `nor` and `xnor` of an array or of an array with a scalar, and `?/=`, are `not` of what stands here. The bounds of results are 1 to n for vectors
 -- of STD_ULOGIC and the operand's for vectors of BIT.)
-use Rattle.std.specs.Prelude.{◌≡◌, ◌<◌, ℕ, ◌+◌, ◌-◌, ◌%◌, nat_lt, Bool, true, false, List, [], ◌∷◌, length, map, slice_index_or, Option, Some, None, if◌then◌else◌}
-use Rattle.std.specs.List.{list_any}
+use Rattle.std.specs.Prelude.{◌≡◌, ◌<◌, ℕ, ◌+◌, ◌-◌, ◌%◌, nat_lt, Bool, true, false, List, [], ◌∷◌, length, slice_index_or, Option, Some, None, if◌then◌else◌}
 use Rattle.vd_values.specs.declared.logic.Logic.{Logic}
-use Rattle.vd_values.specs.declared.logic.Logic.TheVariants.{U, X, Zero, One, Z, W, L, H, Dash}
+use Rattle.vd_values.specs.declared.logic.Logic.TheVariants.{U, X, Zero, One, L, H, Dash}
 use Rattle.vd_values.specs.LogicTables.{and_of, or_of, xor_of}
 use Rattle.vd_values.specs.Matching.{match_of, condition_of}
-use Rattle.vd_vectors.specs.declared.logical.LogicalOperator.{LogicalOperator}
 use Rattle.vd_vectors.specs.declared.logical.LogicalOperator.TheVariants.{And, Or, Xor}
 use Rattle.vd_vectors.specs.declared.shifts.ShiftOperator.TheVariants.{LogicalLeft, LogicalRight, RotateLeft, RotateRight}
-use Rattle.vd_vectors.specs.Logical.{logical_of, reduced}
+use Rattle.vd_vectors.specs.Logical.{reduced}
 use Rattle.vd_vectors.specs.Shifts.{places}
 use Rattle.vd_vectors.specs.Matching.{match_all}
-use Rattle.vd_vectors.specs.Laws.{of_bool, different}
+use Rattle.vd_vectors.specs.Laws.{different}
 
 -- vd_cond: whether a value is '1' or 'H'
 abbrev pub vd_cond : Logic → Bool

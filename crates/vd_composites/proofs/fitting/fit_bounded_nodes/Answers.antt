@@ -1,4 +1,4 @@
-use Rattle.std.proofs.Common.{arith, rules, ◌≡◌, ◌≤◌, ◌+◌, length, ℕ, sym, ap, ◌∙◌, to_z, of_z, w64, SFits, ◌∷◌, drop}
+use Rattle.std.proofs.Common.{arith, rules, ◌≡◌, ◌≤◌, ◌+◌, length, sym, ap, ◌∙◌, to_z, of_z, w64, SFits, ◌∷◌, drop}
 use Rattle.std.proofs.lemmas.Int.{to_z-of_z}
 use Rattle.vd_composites.specs.declared.nodes.Node.TheVariants.{Array as ArrayNode, Right}
 use Rattle.vd_composites.specs.Ranges.{length_of}

@@ -1,4 +1,4 @@
-use Rattle.std.proofs.Common.{◌≡◌, sym, ap, ◌∙◌}
+use Rattle.std.proofs.Common.{sym, ap, ◌∙◌}
 use Rattle.vd_composites.specs.Nodes.{fields_in}
 use Rattle.vd_composites.proofs.ValueLemmas.{is_record, record_fits, record_fails}
 use Rattle.vd_composites.proofs.fitting.fit_record_nodes.Goals as goal

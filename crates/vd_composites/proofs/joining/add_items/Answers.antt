@@ -1,5 +1,5 @@
 use Rattle.vd_composites.proofs.JoinedLemmas.{added_whole, added_read}
-use Rattle.std.proofs.Common.{arith, ◌≡◌, ◌+◌, Some, ap, sym, ◌∙◌}
+use Rattle.std.proofs.Common.{arith, ◌≡◌, ◌+◌, ap, ◌∙◌}
 use Rattle.vd_composites.specs.Nodes.{after}
 use Rattle.vd_composites.proofs.joining.add_items.Goals as goal
 

@@ -1,6 +1,4 @@
-use Rattle.std.proofs.Common.{arith, rules, ◌≡◌, ◌∷◌, sym, ap, ◌∙◌, to_z, of_z, w64, SFits}
-use Rattle.std.proofs.lemmas.Int.{to_z-of_z}
-use Rattle.vd_composites.specs.declared.nodes.Node.TheVariants.{Array as ArrayNode, Right}
+use Rattle.std.proofs.Common.{arith, ◌≡◌, ◌∙◌}
 use Rattle.vd_composites.specs.Ranges.{length_of}
 use Rattle.vd_composites.proofs.JoinedLemmas.{array_is_made, array_is_not}
 use Rattle.vd_composites.proofs.joining.array_nodes.Goals as goal

@@ -1,4 +1,4 @@
-use Rattle.std.proofs.Common.{subst, sym, ◌∙◌}
+use Rattle.std.proofs.Common.{subst}
 use Rattle.vd_composites.specs.Answers.{MadeNodes}
 use Rattle.vd_composites.proofs.JoinedLemmas.{on_end, on_found}
 use Rattle.vd_composites.proofs.joining.array_on_nodes.Goals as goal

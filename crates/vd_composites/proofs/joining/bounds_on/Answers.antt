@@ -1,9 +1,8 @@
 use Rattle.std.proofs.Common.{arith, rules, ◌≡◌, ◌<◌, ◌≤◌, sym, ap, ◌∙◌, subst, to_z, of_z, w64, SFits}
 use Rattle.std.specs.Int.{w128}
 use Rattle.std.proofs.lemmas.Int.{to_z-of_z}
-use Rattle.std.specs.Prelude.{ℤ, Ok, Err}
+use Rattle.std.specs.Prelude.{Ok, Err}
 use Rattle.vd_values.specs.declared.scalar.StopKind.TheVariants.{Index}
-use Rattle.vd_composites.specs.declared.ranges.Bounds.{Bounds}
 use Rattle.vd_composites.specs.Ranges.{length_of, lies_within, from_left, one_before, steps_on}
 use Rattle.vd_composites.proofs.StopLemmas.{if_true}
 use Rattle.vd_composites.proofs.JoinedLemmas.{enough, ok_bounds}

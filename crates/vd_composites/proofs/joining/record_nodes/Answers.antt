@@ -1,4 +1,4 @@
-use Rattle.std.proofs.Common.{arith, rules, ◌≡◌}
+use Rattle.std.proofs.Common.{rules, ◌≡◌}
 use Rattle.vd_composites.proofs.JoinedLemmas.{record_made}
 use Rattle.vd_composites.proofs.joining.record_nodes.Goals as goal
 

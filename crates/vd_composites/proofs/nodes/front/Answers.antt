@@ -1,9 +1,6 @@
-use Rattle.std.proofs.Common.{rules, arith, ◌≡◌, ◌≤◌, ◌<◌, ◌+◌, ◌-◌, suc, Some, length, take, drop, sym, ap, ◌∙◌, subst}
-use Rattle.std.proofs.lemmas.List.{length-drop}
-use Rattle.std.specs.Prelude.{ℕ}
-use Rattle.vd_composites.specs.Nodes.{after, width_of, parts_in}
-use Rattle.vd_composites.proofs.NodeLemmas.{OneMore, front_more, front_rest, wanted_fit}
-use Rattle.vd_composites.proofs.NodeSteps.{tail_of, more_here, head_wanted, left_fits, single_front, same_wanted}
+use Rattle.std.proofs.Common.{arith, ◌≡◌, ◌≤◌, ◌<◌, ◌+◌, ◌-◌, length}
+use Rattle.vd_composites.proofs.NodeLemmas.{wanted_fit}
+use Rattle.vd_composites.proofs.NodeSteps.{more_here, head_wanted, left_fits, single_front, same_wanted}
 use Rattle.vd_composites.proofs.nodes.front.Goals as goal
 
 pub head_of-head-requires : goal.head_of-head-requires

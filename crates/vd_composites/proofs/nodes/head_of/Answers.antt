@@ -1,4 +1,4 @@
-use Rattle.std.proofs.Common.{rules, arith, ◌≤◌, ◌+◌, length, sym, ◌∙◌}
+use Rattle.std.proofs.Common.{arith, ◌≤◌, ◌+◌, length, sym, ◌∙◌}
 use Rattle.vd_composites.specs.Ranges.{length_of}
 use Rattle.vd_composites.proofs.NodeLemmas.{elements_fit}
 use Rattle.vd_composites.proofs.nodes.head_of.Goals as goal

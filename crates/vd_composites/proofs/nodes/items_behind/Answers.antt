@@ -1,4 +1,4 @@
-use Rattle.std.proofs.Common.{arith, ◌≡◌, ◌+◌, ◌-◌, ◌++◌, Some, length, take, drop, sym, ap, ◌∙◌}
+use Rattle.std.proofs.Common.{arith, ◌≡◌, ◌+◌, ◌-◌, ◌++◌, length, take, drop, ap, ◌∙◌}
 use Rattle.vd_composites.proofs.NodeSteps.{rest_wanted, rest_all, same_wanted, front_items}
 use Rattle.vd_composites.proofs.nodes.items_behind.Goals as goal
 

@@ -1,6 +1,6 @@
-use Rattle.std.proofs.Common.{arith, ◌≡◌, ◌≤◌, ◌+◌, [], Some, length, drop, sym, ap, ◌∙◌}
+use Rattle.std.proofs.Common.{arith, ◌≤◌, ◌+◌, length, drop, sym, ap, ◌∙◌}
 use Rattle.vd_composites.specs.Ranges.{length_of}
-use Rattle.vd_composites.specs.Nodes.{after, read}
+use Rattle.vd_composites.specs.Nodes.{after}
 use Rattle.vd_composites.proofs.ValueLemmas.{is_array, is_record, array_parts, record_parts}
 use Rattle.vd_composites.proofs.parts.body_of.Goals as goal
 

@@ -1,4 +1,4 @@
-use Rattle.std.proofs.Common.{arith, length, ◌≡◌, ◌<◌, ◌≤◌, ◌+◌, true, sym, ap, ◌∙◌, subst, to_z, of_z, w64}
+use Rattle.std.proofs.Common.{arith, length, ◌≡◌, ◌<◌, ◌≤◌, ◌+◌, true, sym, ap, ◌∙◌, to_z, of_z, w64}
 use Rattle.std.proofs.lemmas.Int.{to_z-of_z}
 use Rattle.vd_composites.specs.Ranges.{length_of, is_within, place_of}
 use Rattle.vd_composites.proofs.RangeLemmas.{place_below}

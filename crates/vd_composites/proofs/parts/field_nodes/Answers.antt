@@ -1,4 +1,4 @@
-use Rattle.std.proofs.Common.{arith, ◌≡◌, ◌<◌, ◌≤◌, sym, ap, ◌∙◌}
+use Rattle.std.proofs.Common.{arith, ◌<◌, ◌≤◌, sym, ◌∙◌}
 use Rattle.vd_composites.proofs.ValueLemmas.{is_record, all_fields, field_wanted, field_made, field_outside, bare_whole, bare_read}
 use Rattle.vd_composites.proofs.parts.field_nodes.Goals as goal
 

@@ -1,4 +1,4 @@
-use Rattle.std.proofs.Common.{arith, rules, to_z, of_z, w64, SFits, [], ◌∷◌, take, drop, ◌-◌, ◌≡◌, ◌<◌, ◌≤◌, ◌+◌, length, true, sym, ap, ◌∙◌, subst}
+use Rattle.std.proofs.Common.{arith, rules, to_z, of_z, w64, SFits, [], ◌∷◌, take, drop, ◌-◌, ◌≡◌, ◌≤◌, ◌+◌, length, true, sym, ◌∙◌, subst}
 use Rattle.std.proofs.lemmas.Int.{to_z-of_z}
 use Rattle.vd_composites.specs.declared.nodes.Node.TheVariants.{Array as ArrayNode, Right}
 use Rattle.vd_composites.specs.Answers.{HasItems}

@@ -1,12 +1,9 @@
-use Rattle.std.proofs.Common.{arith, ◌≡◌, ◌<◌, ◌≤◌, ◌+◌, length, true, false, sym, ap, ◌∙◌, to_z, of_z, w64}
+use Rattle.std.proofs.Common.{arith, ◌≡◌, ◌<◌, ◌≤◌, ◌+◌, length, true, sym, ap, ◌∙◌, to_z, of_z, w64}
 use Rattle.std.proofs.lemmas.Int.{to_z-of_z}
-use Rattle.vd_values.specs.declared.scalar.StopKind.TheVariants.{Range, Index}
 use Rattle.vd_composites.specs.Ranges.{length_of, is_within, place_of}
-use Rattle.vd_composites.specs.Parts.{AtIndex}
-use Rattle.vd_composites.specs.Nodes.{read, value_in}
 use Rattle.vd_composites.proofs.RangeLemmas.{place_below}
-use Rattle.vd_composites.proofs.ValueLemmas.{is_array, all_elements, is_no_array, elements_wanted, element_outside}
-use Rattle.vd_composites.proofs.ReplacedLemmas.{stops_too, element_replaced}
+use Rattle.vd_composites.proofs.ValueLemmas.{is_array, all_elements, elements_wanted}
+use Rattle.vd_composites.proofs.ReplacedLemmas.{element_replaced}
 use Rattle.vd_composites.proofs.replacing.with_element_nodes.Goals as goal
 
 pub items_replaced-requires-clause-there : goal.items_replaced-requires-clause-there

@@ -1,4 +1,4 @@
-use Rattle.std.proofs.Common.{arith, ◌≡◌, ◌<◌, ◌≤◌, sym, ap, ◌∙◌}
+use Rattle.std.proofs.Common.{arith, ◌<◌, ◌≤◌, sym, ◌∙◌}
 use Rattle.vd_values.specs.declared.scalar.StopKind.TheVariants.{Range}
 use Rattle.vd_composites.specs.Parts.{AtField}
 use Rattle.vd_composites.specs.Nodes.{read, value_in}

@@ -1,10 +1,10 @@
-use Rattle.std.proofs.Common.{arith, ◌≡◌, ◌<◌, ◌≤◌, ◌+◌, length, true, sym, ap, ◌∙◌}
+use Rattle.std.proofs.Common.{arith, ◌≡◌, ◌≤◌, ◌+◌, length, true, sym, ◌∙◌}
 use Rattle.vd_composites.specs.Ranges.{length_of}
 use Rattle.vd_composites.specs.Parts.{is_slice}
 use Rattle.vd_composites.specs.Nodes.{slice_start}
 use Rattle.vd_composites.proofs.ValueLemmas.{is_array, all_elements, elements_wanted}
 use Rattle.vd_composites.proofs.SliceLemmas.{start_fits}
-use Rattle.vd_composites.proofs.ReplacedLemmas.{slice_of_other_length, slice_of_no_array, slice_replaced, elements_as_many}
+use Rattle.vd_composites.proofs.ReplacedLemmas.{slice_of_other_length, slice_replaced, elements_as_many}
 use Rattle.vd_composites.proofs.replacing.with_slice_nodes.Goals as goal
 
 pub returns-then-length-items : goal.returns-then-length-items

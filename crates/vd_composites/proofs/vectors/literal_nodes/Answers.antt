@@ -1,5 +1,4 @@
-use Rattle.std.proofs.Common.{arith, ◌≡◌, ℕ, List, length, map, sym, ap, ◌∙◌, subst}
-use Rattle.vd_composites.specs.Answers.{MadeNodes}
+use Rattle.std.proofs.Common.{arith, ◌≡◌, ℕ, List, length, map, sym, ap, ◌∙◌}
 use Rattle.vd_composites.specs.Ranges.{length_of}
 use Rattle.vd_composites.specs.Parts.{array_of}
 use Rattle.vd_composites.specs.declared.nodes.Node.TheVariants.{Literal}

@@ -1,6 +1,5 @@
-use Rattle.std.proofs.Common.{◌≡◌, ◌+◌, Bool, true, false, sym, ap, ◌∙◌, subst}
+use Rattle.std.proofs.Common.{◌+◌, sym, ap, ◌∙◌, subst}
 use Rattle.vd_composites.specs.Nodes.{after, width_of}
-use Rattle.vd_composites.specs.Vectors.{first_in, same_first}
 use Rattle.vd_composites.proofs.NodeSteps.{tail_of}
 use Rattle.vd_composites.proofs.VectorLemmas.{SameRest, same_begin, same_step, same_not, head_wanted_here, same_tails}
 use Rattle.vd_composites.proofs.vectors.same_nodes.Goals as goal

@@ -1,4 +1,4 @@
-use Rattle.std.proofs.Common.{◌≡◌, ◌<◌, ◌≤◌, length, sym, ◌∙◌, arith}
+use Rattle.std.proofs.Common.{◌≤◌, length, sym, ◌∙◌, arith}
 use Rattle.vd_vectors.proofs.ListLemmas.{shorter_first, longer_first}
 use Rattle.vd_vectors.proofs.lists.order_lists.Goals as goal
 use Rattle.vd_vectors.proofs.lists.order_lists.Goals.{then-loop-i-test+else-i-right, else-loop-i-test}

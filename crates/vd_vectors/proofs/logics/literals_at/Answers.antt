@@ -1,8 +1,8 @@
-use Rattle.std.proofs.Common.{◌≡◌, ◌+◌, ◌<◌, ℕ, List, [], ◌∷◌, ◌++◌, length, drop, get_or, to_z, of_z, w64, SFits, sym, ap, ◌∙◌, rules, arith}
+use Rattle.std.proofs.Common.{◌≡◌, ℕ, List, [], ◌∷◌, ◌++◌, get_or, w64, SFits, sym, ap, ◌∙◌, rules, arith}
 use Rattle.std.specs.Prelude.{ℤ, pos, Ok, Err}
 use Rattle.std.proofs.lemmas.Int.{to_z-of_z}
 use Rattle.std.proofs.lemmas.Grind.{common_steps}
-use Rattle.vd_vectors.specs.Logics.{logic_at, logics_at}
+use Rattle.vd_vectors.specs.Logics.{logic_at}
 use Rattle.vd_vectors.proofs.ListLemmas.{split_at, one_literal, no_literal}
 use Rattle.vd_vectors.proofs.logics.literals_at.Goals as goal
 

@@ -1,5 +1,5 @@
-use Rattle.std.proofs.Common.{◌≡◌, ◌<◌, ◌≢◌, length, [], sym, ap, ◌∙◌, subst, arith}
-use Rattle.std.specs.Prelude.{IfOk, ◌==◌, false, true}
+use Rattle.std.proofs.Common.{◌≡◌, ◌<◌, length, sym, ap, ◌∙◌, subst}
+use Rattle.std.specs.Prelude.{IfOk}
 use Rattle.vd_vectors.specs.declared.shifts.ShiftOperator.TheVariants.{RotateLeft}
 use Rattle.vd_vectors.specs.Shifts.{places}
 use Rattle.vd_vectors.proofs.ShiftLemmas.{nothing_left, rotation_left, none_of, some_of}

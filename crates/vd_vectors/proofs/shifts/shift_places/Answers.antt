@@ -1,6 +1,5 @@
 use Rattle.std.proofs.Common.{◌≡◌, sym, ap, ◌∙◌, subst}
 use Rattle.std.specs.Prelude.{IfOk}
-use Rattle.vd_values.specs.declared.logic.Logic.TheVariants.{Zero}
 use Rattle.vd_vectors.specs.Moves.{filled_left, filled_right}
 use Rattle.vd_vectors.specs.Shifts.{places}
 use Rattle.vd_vectors.proofs.ShiftLemmas.{logical_left, logical_right, arithmetic_left, arithmetic_right}

@@ -1,6 +1,5 @@
-use Rattle.std.proofs.Common.{subst, Some, None}
+use Rattle.std.proofs.Common.{subst, None}
 use Rattle.vd_composites.specs.Answers.{Answers}
-use Rattle.vd_composites.specs.Composites.{Value}
 use Rattle.vd_composites.specs.Nodes.{read, value_in}
 use Rattle.vd_composites.specs.Subtypes.{Arrays, Records, no_more, fit}
 use Rattle.vd_composites.proofs.ValueLemmas.{made_whole}

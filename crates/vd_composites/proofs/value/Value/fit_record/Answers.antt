@@ -1,4 +1,4 @@
-use Rattle.std.proofs.Common.{subst, sym}
+use Rattle.std.proofs.Common.{subst}
 use Rattle.vd_composites.specs.Answers.{Answers}
 use Rattle.vd_composites.specs.Nodes.{read, value_in}
 use Rattle.vd_composites.specs.Subtypes.{Records, fit}
