@@ -1,11 +1,11 @@
 -- The depth of a derivation, between two limits.
-use Rattle.std.proofs.Common.{◌≡◌, ◌<◌, ◌≤◌, ℕ, zero, suc, ◌+◌, min, max, true, if◌then◌else◌, slice_get, List, [], ◌∷◌, ◌++◌, take, drop, refl, sym, ap, ◌∙◌, subst, arith}
+use Rattle.std.proofs.Common.{◌≡◌, ◌<◌, ◌≤◌, ℕ, zero, suc, ◌+◌, min, max, true, if◌then◌else◌, slice_get, List, [], ◌∷◌, drop, refl, sym, ap, ◌∙◌, subst, arith}
 use Rattle.std.proofs.lemmas.List.{take-append-drop}
 use Rattle.vd_gram.specs.declared.tables.Table.{Table}
 use Rattle.vd_gram.specs.declared.tables.Production.{Production}
 use Rattle.vd_gram.specs.Claims.{has, is_checked}
-use Rattle.vd_gram.specs.Derivations.{Trees, nothing, leaf, node, IsDerivation, yield, unplaced, with_end, IsTooDeep, IsRefused, mark, mark_of, depth}
-use Rattle.vd_gram.specs.Same.{AreSameProductions, IsSameGrammar, SaysTheSame}
+use Rattle.vd_gram.specs.Derivations.{Trees, nothing, leaf, node, unplaced, with_end, IsTooDeep, IsRefused, mark, mark_of, depth}
+use Rattle.vd_gram.specs.Same.{AreSameProductions, IsSameGrammar}
 use Rattle.vd_gram.proofs.SameLemmas.{say_the_same}
 use Rattle.vd_gram.proofs.UniqueLemmas.{one_unplaced, shallow_depth}
 use Rattle.vd_gram.proofs.FrontLemmas.{deep_there}

@@ -1,27 +1,25 @@
 -- Tokens of designs are read back.
-use Rattle.std.proofs.Common.{◌≡◌, ◌<◌, ◌≤◌, ℕ, ◌+◌, max, true, List, [], ◌∷◌, ◌++◌, take, drop, map, refl, sym, ap, ◌∙◌, subst}
-use Rattle.std.proofs.lemmas.List.{take-append-drop}
+use Rattle.std.proofs.Common.{◌≡◌, ◌<◌, ◌≤◌, true, List, sym, ap, ◌∙◌, subst}
 use Rattle.vd_bytes.specs.declared.answers.Refused.{Refused}
 use Rattle.vd_trees.specs.declared.revision.Revision.TheVariants.{V1993}
 use Rattle.vd_tokens.specs.Lexemes.{Lexeme}
 use Rattle.vd_gram.specs.declared.tables.Table.{Table}
 use Rattle.vd_gram.specs.Claims.{is_checked}
-use Rattle.vd_gram.specs.Derivations.{Trees, nothing, leaf, node, IsDerivation, yield, unplaced, with_end, IsTooDeep, IsParse, mark_of, depth}
+use Rattle.vd_gram.specs.Derivations.{Trees, yield, unplaced, IsTooDeep, depth}
 use Rattle.vd_gram.proofs.UniqueLemmas.{one_unplaced, shallow_depth}
 use Rattle.vd_gram.proofs.FrontLemmas.{deep_there}
 use Rattle.vd_forest.specs.Forest.{Forest, SameButPlaces}
 use Rattle.vd_forms.specs.declared.form.Form.{Form}
 use Rattle.vd_forms.specs.Validity.{IsDesign}
 use Rattle.vd_shapes.specs.declared.actions.Action.{Action}
-use Rattle.vd_shapes.specs.Shapes.{shape}
 use Rattle.vd_shapes.specs.Reading.{symbols_in, IsRefusedAt}
 use Rattle.vd_valid_shapes.specs.Laws.{IsShapeOf}
 use Rattle.vd_templates.specs.Templates.{tokens_of}
-use Rattle.vd_derivations.specs.Laws.{AreTokensOf, IsDerivationOf, AreDerived, DesignsAreDerived, HaveNoOtherShape}
+use Rattle.vd_derivations.specs.Laws.{AreTokensOf, IsDerivationOf, HaveNoOtherShape}
 use Rattle.vd_derivations.proofs.ShapeLemmas.{symbols_without_place}
 use Rattle.vd_grammar93.specs.Grammar.{grammar, actions}
 use Rattle.vd_grammar93.proofs.Checked.{grammar_is_checked}
-use Rattle.vd_derivations93.specs.Laws.{IsReadBack, DesignsAreReadBack}
+use Rattle.vd_derivations93.specs.Laws.{DesignsAreReadBack}
 use Rattle.vd_derivations93.proofs.Checked.{derived, no_other}
 use Rattle.vd_derivations93.proofs.DepthLemmas.{depth_unplaced, not_refused}
 

@@ -1,5 +1,5 @@
 -- What reading the tokens of a design of revision 1993 answers.
-use Rattle.std.specs.Prelude.{ℕ, ◌<◌, ◌≤◌, List}
+use Rattle.std.specs.Prelude.{◌<◌, ◌≤◌, List}
 use Rattle.vd_bytes.specs.declared.answers.Refused.{Refused}
 use Rattle.vd_trees.specs.declared.revision.Revision.TheVariants.{V1993}
 use Rattle.vd_tokens.specs.Lexemes.{Lexeme}

@@ -1,4 +1,3 @@
-use Rattle.std.proofs.Common.{◌≡◌, sym, subst}
 use Rattle.std.specs.Prelude.{IfOk, Result, Ok, Err}
 use Rattle.vd_shapes.specs.Reading.{symbols_in}
 use Rattle.vd_grammar93.specs.Grammar.{grammar, actions}

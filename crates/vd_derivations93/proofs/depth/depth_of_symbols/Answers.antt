@@ -1,8 +1,8 @@
-use Rattle.std.proofs.Common.{◌≡◌, ◌<◌, ◌≤◌, ℕ, ◌+◌, true, false, refl, sym, subst, arith}
+use Rattle.std.proofs.Common.{true, false, subst, arith}
 use Rattle.std.specs.Prelude.{MatchBool}
 use Rattle.vd_gram.specs.Derivations.{IsTooDeep}
 use Rattle.vd_derivations93.specs.Depths.{HasParse}
-use Rattle.vd_derivations93.proofs.DepthLemmas.{start, deeper, no_deeper, ended}
+use Rattle.vd_derivations93.proofs.DepthLemmas.{start, deeper, no_deeper}
 use Rattle.vd_derivations93.proofs.depth.depth_of_symbols.Goals as goal
 
 pub loop-low-init : goal.loop-low-init
