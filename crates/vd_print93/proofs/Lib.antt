@@ -1,1 +1,2 @@
+pub mod DeriveLemmas
 pub mod PrintLemmas

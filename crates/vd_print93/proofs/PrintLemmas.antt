@@ -1,5 +1,5 @@
 -- A print is read as the tokens of its tree.
-use Rattle.std.proofs.Common.{◌≡◌, ℕ, ◌+◌, ◌-◌, Bool, true, false, cond, not, List, [], ◌∷◌, map, Option, Some, None, Result, Ok, Err, IfOk, Vec, refl, sym, ap, subst}
+use Rattle.std.proofs.Common.{◌≡◌, ℕ, ◌+◌, ◌-◌, Bool, true, false, cond, not, List, [], ◌∷◌, map, Option, Some, None, Result, Ok, Err, IfOk, Vec, refl, sym, ap, subst, ◌∙◌}
 use Rattle.vd_trees.specs.declared.revision.Revision.{Revision}
 use Rattle.vd_trees.specs.declared.revision.Revision.TheVariants.{V1993}
 use Rattle.vd_tokens.specs.declared.kinds.Kind.{Kind}
@@ -13,7 +13,12 @@ use Rattle.vd_spacing.proofs.ReadLemmas.{layouts_read_back}
 use Rattle.vd_neighbours.specs.Neighbours.{StandSideBySide}
 use Rattle.vd_neighbours.proofs.SideLemmas.{side_by_side}
 use Rattle.vd_print93.specs.Layout.{spacing_behind, laid_from, laid_out, layout_of}
-use Rattle.vd_print93.specs.PrintReading.{PrintReadsBack}
+use Rattle.vd_print93.specs.PrintReading.{PrintReadsBack, PrintIsOfDesign}
+use Rattle.vd_directives.specs.Lines.{plain_of}
+use Rattle.vd_lex.specs.Lexis.{lexed}
+use Rattle.vd_lex.proofs.LexingLaws.{one_lexing}
+use Rattle.vd_derivations.specs.Laws.{without_place}
+use Rattle.vd_derivations93.proofs.ReadingLemmas.{read_back}
 
 apart_if : (left right : Kind) (b : Bool) → is_spaced left right ≡ b → is_apart (Some left) (cond b spaced touching) right ≡ true
 apart_if left right true e = refl
@@ -39,11 +44,20 @@ tokens_laid (end_line ∷ items) level ended last = tokens_laid items level true
 tokens_laid (inward ∷ items) level ended last = tokens_laid items (level + 1) ended last
 tokens_laid (outward ∷ items) level ended last = tokens_laid items (level - 1) ended last
 
-layout_reads_back : (units : Forest Form) → IsDesign V1993 units → PrintReadsBack units (layout_of units)
+pub layout_reads_back : (units : Forest Form) → IsDesign V1993 units → PrintReadsBack units (layout_of units)
 layout_reads_back units valid file words =
     subst (ReadsBack V1993 file (layout_of units)) (tokens_laid (items_of units) 0 false None)
     (layouts_read_back V1993 file (laid_out units) (laid V1993 (items_of units) 0 false None (side_by_side units valid words)))
 
-pub print_reads_back : {A E : Type 0} (units : Forest Form) (r : Result (Vec ℕ A) E) → IsDesign V1993 units → IfOk r (λ bytes. bytes.items ≡ layout_of units) → IfOk r (λ bytes. PrintReadsBack units bytes.items)
-print_reads_back units (Ok bytes) valid h = subst (PrintReadsBack units) (sym h) (layout_reads_back units valid)
-print_reads_back units (Err e) valid h = tt
+-- whatever tokens the bytes have, these are the tokens of the units, and lead back to them
+pub layout_is_of_design : (units : Forest Form) → IsDesign V1993 units → PrintIsOfDesign units (layout_of units)
+layout_is_of_design units valid file tokens words list =
+    let back = layout_reads_back units valid file words in
+    let same : lexed tokens ≡ lexed back.read = one_lexing V1993 (plain_of file (layout_of units)) (lexed tokens) (lexed back.read) list back.is_list in
+    let are : tokens ≡ back.read = cc in
+    read_back units tokens valid (ap (map without_place) are ∙ back.same)
+
+-- what holds of the bytes that a call gives
+pub of_bytes : {A E : Type 0} (P : List ℕ → Type 0) (x : List ℕ) (r : Result (Vec ℕ A) E) → P x → IfOk r (λ bytes. bytes.items ≡ x) → IfOk r (λ bytes. P bytes.items)
+of_bytes P x (Ok bytes) h e = subst P (sym e) h
+of_bytes P x (Err e) h k = tt

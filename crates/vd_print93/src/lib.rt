@@ -1,7 +1,9 @@
-//! A tree of revision 1993 as text, laid out in lines.
+//! A tree of revision 1993 as tokens, and as text that is laid out in lines.
 #![tactic(auto)]
 
 mod layout;
 mod printing;
+mod tokens;
 
 pub use printing::print;
+pub use tokens::derive93;

@@ -3,7 +3,7 @@
 ghost use Rattle.std.specs.Prelude.{◌≡◌, IfOk};
 ghost use Rattle.vd_forms.specs.Validity.{IsDesign};
 ghost use Rattle.vd_print93.specs.Layout.{layout_of};
-ghost use Rattle.vd_print93.specs.PrintReading.{PrintReadsBack};
+ghost use Rattle.vd_print93.specs.PrintReading.{PrintReadsBack, PrintIsOfDesign};
 ghost use Rattle.vd_trees.specs.declared.revision.Revision.TheVariants.{V1993};
 
 use crate::layout::{Layout, write_item};
@@ -11,11 +11,12 @@ use std::alloc::{AllocError, Global};
 use vd_forms::Design93;
 use vd_writing::Items;
 
-/// The text of a design, laid out in lines. It is read as the tokens of the design where no apostrophe stands behind the words `range`
-/// and `all` in these.
+/// The text of a design, laid out in lines. It is read as the tokens of the design, and these as the design, where no apostrophe stands
+/// behind the words `range` and `all` in the tokens.
 pub fn print(alloc: Global, design: &Design93) -> Result<Vec<u8>, AllocError>
     ensures laid_out { IfOk result (λ bytes. bytes.items ≡ layout_of design.now) }
     ensures reads_back { IfOk result (λ bytes. PrintReadsBack design.now bytes.items) }
+    ensures of_design { IfOk result (λ bytes. PrintIsOfDesign design.now bytes.items) }
 {
     lay_out(alloc, design)
 }
