@@ -1,14 +1,8 @@
 -- Heads decide.
-use Rattle.std.proofs.Common.{◌≡◌, ℕ, zero, suc, refl, ap, Option, Some, None}
+use Rattle.std.proofs.Common.{◌≡◌, ℕ, zero, suc, refl, ap, Some, None}
 use Rattle.vd_values.specs.declared.scalar.Scalar.{Scalar}
-use Rattle.vd_composites.specs.declared.ranges.Bounds.{Bounds}
-use Rattle.vd_composites.specs.declared.scalars.ScalarSubtype.{ScalarSubtype}
-use Rattle.vd_composites.specs.declared.scalars.ScalarType.TheVariants.{Integers}
 use Rattle.vd_composites.specs.Composites.{Value, One, Array, Fields}
 use Rattle.vd_composites.specs.Subtypes.{Subtype, Scalars, Arrays, Records, Subtypes, no_more, and_more, number_of, fit}
-use Rattle.vd_composites.specs.Stops.{OrStop, ◌>>=◌}
-use Rattle.vd_subtypes.specs.declared.heads.SubtypeHead.{SubtypeHead}
-use Rattle.vd_subtypes.specs.declared.heads.SubtypeHead.TheVariants.{Scalar as ScalarHead, Unbounded, Bounded, Record as RecordHead}
 use Rattle.vd_subtypes.specs.Heads.{head_of, fit_head}
 
 pub fits_by_head : (s : Subtype) (v : Value Scalar) → fit s v ≡ fit_head (head_of s) v

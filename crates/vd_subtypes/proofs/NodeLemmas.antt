@@ -1,5 +1,5 @@
 -- Nodes and the subtypes that they make.
-use Rattle.std.proofs.Common.{◌≡◌, ◌<◌, ◌≤◌, ℕ, zero, suc, ◌+◌, List, [], ◌∷◌, ◌++◌, length, Option, Some, None, refl, sym, ap, ◌∙◌, subst, arith, length-append}
+use Rattle.std.proofs.Common.{◌≡◌, ◌≤◌, ℕ, zero, suc, ◌+◌, List, [], ◌∷◌, ◌++◌, length, Option, Some, None, refl, sym, ap, ◌∙◌, arith, length-append}
 use Rattle.vd_composites.specs.declared.ranges.Bounds.{Bounds}
 use Rattle.vd_composites.specs.declared.scalars.ScalarSubtype.{ScalarSubtype}
 use Rattle.vd_composites.specs.Subtypes.{Subtype, Scalars, Arrays, Records, Subtypes, no_more, and_more, number_of, constrained}

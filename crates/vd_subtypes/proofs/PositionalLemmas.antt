@@ -1,5 +1,5 @@
 -- Values made values of a subtype one after another.
-use Rattle.std.proofs.Common.{◌≡◌, ◌<◌, ℕ, suc, ◌+◌, List, ◌∷◌, get_or, length, drop, ◌≤◌, [], true, false, drop_of_length-le, refl, sym, ap, ◌∙◌, arith}
+use Rattle.std.proofs.Common.{◌≡◌, ◌<◌, ℕ, suc, ◌+◌, List, ◌∷◌, get_or, length, drop, ◌≤◌, true, false, drop_of_length-le, refl, sym, ap, ◌∙◌, arith}
 use Rattle.std.proofs.Math.Seq.{drop-cons}
 use Rattle.std.specs.Prelude.{Ok, Err, ◌&&◌, if◌then◌else◌}
 use Rattle.std.specs.List.{list_all}

@@ -1,7 +1,7 @@
 -- Values on a stack, and defaults.
-use Rattle.std.proofs.Common.{◌≡◌, ℕ, zero, suc, ◌+◌, Bool, true, false, List, [], ◌∷◌, ◌++◌, refl, sym, ap, ◌∙◌, subst, arith}
+use Rattle.std.proofs.Common.{◌≡◌, ℕ, zero, suc, ◌+◌, Bool, true, false, List, [], ◌∷◌, ◌++◌, refl, sym, ap, ◌∙◌, arith}
 use Rattle.std.proofs.lemmas.List.{reverse-append}
-use Rattle.std.specs.Prelude.{Result, Ok, Err, IfOk, reverse, if◌then◌else◌}
+use Rattle.std.specs.Prelude.{Result, Ok, Err, IfOk, if◌then◌else◌}
 use Rattle.vd_values.specs.declared.scalar.Scalar.{Scalar}
 use Rattle.vd_values.specs.declared.scalar.StopKind.{StopKind}
 use Rattle.vd_composites.specs.declared.scalars.ScalarSubtype.{ScalarSubtype}
@@ -11,7 +11,7 @@ use Rattle.vd_composites.specs.Stops.{OrStop}
 use Rattle.vd_composites.specs.Ranges.{length_of, lies_within, from_left}
 use Rattle.std.specs.Prelude.{◌==◌}
 use Rattle.vd_composites.specs.Composites.{Value, Array, Fields, Items, none, item, items_of, count, joined, first_of, without, repeated}
-use Rattle.vd_composites.specs.Subtypes.{Subtypes, no_more, and_more, Records, default_of, defaults_of}
+use Rattle.vd_composites.specs.Subtypes.{Subtypes, no_more, and_more, default_of, defaults_of}
 use Rattle.vd_composites.specs.Concatenations.{array_on}
 use Rattle.vd_composites.proofs.ItemLemmas.{count_joined, first_joined, without_joined, joined_assoc}
 use Rattle.vd_subtypes.specs.declared.subtypes.Node.TheVariants.{Record as RecordNode}

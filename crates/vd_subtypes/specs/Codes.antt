@@ -1,6 +1,6 @@
 -- How the logic stores a subtype, so that it can tell two of them apart. A type whose value is a subtype names `coded_subtype`.
-use Rattle.std.specs.Prelude.{◌≡◌, ℕ, zero, suc, ℤ, Bool, Option, Some, None, refl}
-use Rattle.std.specs.Coded.{Coded, code_by, coded×, coded_ℕ, coded_ℤ, coded_bool}
+use Rattle.std.specs.Prelude.{◌≡◌, ℕ, zero, suc, Option, Some, None, refl}
+use Rattle.std.specs.Coded.{Coded, code_by, coded×, coded_ℕ}
 use Rattle.std.proofs.Common.{sym, ap, subst}
 use base.Stored.{Gv, gnil, gnum, gcons}
 use Rattle.vd_composites.specs.Codes.{coded_bounds}

@@ -5,7 +5,7 @@ use Rattle.vd_composites.specs.declared.scalars.ScalarSubtype.{ScalarSubtype}
 use Rattle.vd_composites.specs.declared.ends.ValueEnd.{ValueEnd}
 use Rattle.vd_composites.specs.Answers.{Ends}
 use Rattle.vd_composites.specs.Stops.{OrStop, ◌>>=◌}
-use Rattle.vd_composites.specs.Composites.{Value, One, Array, Fields, Items, none, item, joined}
+use Rattle.vd_composites.specs.Composites.{Value, Array, Items, none, item, joined}
 use Rattle.vd_composites.specs.Parts.{misshapen}
 use Rattle.vd_composites.specs.Concatenations.{Operand, Whole, Element, array_on}
 use Rattle.vd_subtypes.specs.declared.heads.SubtypeHead.{SubtypeHead}

@@ -1,5 +1,4 @@
-use Rattle.std.proofs.Common.{◌≡◌, arith, sym, ap, ◌∙◌}
-use Rattle.std.specs.Prelude.{ℕ}
+use Rattle.std.proofs.Common.{◌≡◌, arith, ◌∙◌}
 use Rattle.vd_composites.specs.Composites.{Fields}
 use Rattle.vd_subtypes.specs.Stacks.{from_top}
 use Rattle.vd_subtypes.proofs.StackLemmas.{one_taken, takes_record, ok_value}
@@ -8,7 +7,7 @@ use Rattle.vd_subtypes.proofs.defaults.record_of.Goals as goal
 pub loop-place-preserved : goal.loop-place-preserved
 loop-place-preserved c =
     let two = one_taken c.loop-place._place c.loop-place.stack.items c.pop.new.self.items c.loop-place.items c.push.new.self (from_top c.args.stack.now.items) c.in-Some.value
-        c.loop-place.invariant.taken c.loop-place.invariant.same c.in-Some.ensures.items c.in_ok-push.ensures.ok
+    c.loop-place.invariant.taken c.loop-place.invariant.same c.in-Some.ensures.items c.in_ok-push.ensures.ok
     in
     record { taken = two.0; same = two.1 }
 

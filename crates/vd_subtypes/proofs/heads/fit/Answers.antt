@@ -1,11 +1,11 @@
-use Rattle.std.proofs.Common.{◌≡◌, None, Some, sym, ap, ◌∙◌, subst}
+use Rattle.std.proofs.Common.{None, Some, sym, ap, ◌∙◌, subst}
 use Rattle.vd_composites.specs.Answers.{Answers}
 use Rattle.vd_composites.specs.declared.scalars.ScalarSubtype.{ScalarSubtype}
 use Rattle.vd_composites.specs.declared.scalars.ScalarType.TheVariants.{Integers}
-use Rattle.vd_composites.specs.Subtypes.{Arrays, Records, no_more, fit}
-use Rattle.vd_subtypes.specs.Heads.{head_of, fit_head}
+use Rattle.vd_composites.specs.Subtypes.{Arrays, Records, no_more}
+use Rattle.vd_subtypes.specs.Heads.{fit_head}
 use Rattle.vd_subtypes.proofs.HeadLemmas.{fits_by_head, fields_of, fields_long}
-use Rattle.vd_subtypes.specs.declared.heads.SubtypeHead.TheVariants.{Scalar as ScalarHead, Unbounded, Bounded, Record as RecordHead}
+use Rattle.vd_subtypes.specs.declared.heads.SubtypeHead.TheVariants.{Record as RecordHead}
 use Rattle.vd_subtypes.proofs.heads.fit.Goals as goal
 
 pub returns-in-Unbounded : goal.returns-in-Unbounded

@@ -1,4 +1,4 @@
-use Rattle.std.proofs.Common.{◌≡◌, sym, ◌∙◌, rules, arith, ◌≤◌, length}
+use Rattle.std.proofs.Common.{◌≡◌, sym, ◌∙◌, arith}
 use Rattle.std.proofs.lemmas.Grind.{common_steps}
 use Rattle.vd_composites.specs.Composites.{joined, item, none}
 use Rattle.vd_subtypes.specs.Positional.{fit_each_head}

@@ -1,4 +1,4 @@
-use Rattle.std.proofs.Common.{◌≡◌, None, length, take, drop, ◌-◌, sym, ap, ◌∙◌, subst}
+use Rattle.std.proofs.Common.{None, sym, ap, ◌∙◌, subst}
 use Rattle.vd_composites.specs.Subtypes.{Arrays, constrained}
 use Rattle.vd_subtypes.specs.Nodes.{MadeSubtype, read, subtype_in}
 use Rattle.vd_subtypes.proofs.NodeLemmas.{unbounded_is, tail_of}

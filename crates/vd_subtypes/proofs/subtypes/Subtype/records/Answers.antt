@@ -1,4 +1,4 @@
-use Rattle.std.proofs.Common.{◌≡◌, ◌∷◌, length, sym, ap, ◌∙◌}
+use Rattle.std.proofs.Common.{◌≡◌, ◌∷◌, length, ap, ◌∙◌}
 use Rattle.vd_subtypes.specs.declared.subtypes.Node.TheVariants.{Record}
 use Rattle.vd_subtypes.proofs.NodeLemmas.{made_record}
 use Rattle.vd_subtypes.proofs.subtypes.Subtype.records.Goals as goal
