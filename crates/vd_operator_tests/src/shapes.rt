@@ -83,7 +83,11 @@ fn few_text(alloc: Global, count: i32) -> anyhow::Result<String> {
         values.push(Value::scalar(alloc, Scalar::Integer(x))?)?;
     }
     let element = SubtypeHead::Scalar(whole(ScalarType::Integers));
-    shown(alloc, positional_array(alloc, index_of("few"), element, &values), 0)
+    shown(
+        alloc,
+        positional_array(alloc, index_of("few"), element, &values),
+        0,
+    )
 }
 
 /// 'range or 'reverse_range of a null array from 0 down to 1, whose index is of an enumeration of so many literals.
