@@ -2,3 +2,4 @@ pub mod Arithmetic
 pub mod Attributes
 pub mod Texts
 pub mod Applied
+pub mod Support

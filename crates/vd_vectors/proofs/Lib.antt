@@ -1,4 +1,4 @@
 mod ListLemmas
 mod PassLemmas
 mod ShiftLemmas
-mod SupportLemmas
+pub mod SupportLemmas

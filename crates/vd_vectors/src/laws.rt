@@ -1,7 +1,7 @@
 //! Laws of the definitions, each as the contract of a function that does nothing.
 
 ghost use Rattle.vd_vectors.specs.Laws.{LengthsStay, TwoValuesAreBits};
-ghost use Rattle.vd_vectors.specs.Support.{SupportGivesOperators};
+ghost use Rattle.vd_vectors.specs.Support.{DeniedBySupport, SupportGivesOperators};
 
 /// On '0' and '1' the tables of STD_ULOGIC are the operators of BIT and BOOLEAN.
 pub fn two_values_are_bits()
@@ -13,8 +13,8 @@ pub fn results_are_as_long()
     ensures { LengthsStay }
 {}
 
-/// What the functions of the support package give is what the operators give that they stand for. A result is as long as its operand
-/// (`results_are_as_long`), so the elements at its places are all of it.
+/// What the functions of the support package give is what the operators give that they stand for, or `not` of it.
 pub fn support_functions_are_operators()
-    ensures { SupportGivesOperators }
+    ensures same { SupportGivesOperators }
+    ensures denied { DeniedBySupport }
 {}
