@@ -5,7 +5,7 @@ ghost use Rattle.std.specs.Prelude.{◌≡◌};
 use std::marker::Model;
 
 /// A declaration, by its place in the list of all declarations of a design, from 0.
-#[derive(Clone, Copy, PartialEq, Eq, Debug)]
+#[derive(Clone, Copy, PartialEq, Eq, Hash, Debug)]
 pub struct DeclId {
     declaration: u32,
 }
@@ -42,7 +42,7 @@ impl DeclId {
 }
 
 /// A type, by the number of its declaration. A subtype is no type: it has that of which it is one.
-#[derive(Clone, Copy, PartialEq, Eq, Debug)]
+#[derive(Clone, Copy, PartialEq, Eq, Hash, Debug)]
 pub struct TypeId {
     declaration: u32,
 }
@@ -79,7 +79,7 @@ impl TypeId {
 }
 
 /// A declarative region, by its place in the list of all regions, from 0.
-#[derive(Clone, Copy, PartialEq, Eq, Debug)]
+#[derive(Clone, Copy, PartialEq, Eq, Hash, Debug)]
 pub struct RegionId {
     region: u32,
 }
