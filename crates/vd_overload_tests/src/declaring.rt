@@ -1,5 +1,8 @@
 //! Steps that declare something in the region that the steps fill.
 
+ghost use Rattle.std.specs.Prelude.{◌≡◌};
+ghost use Rattle.vd_declarations.specs.declared.classes.Class.TheVariants as Class;
+
 use crate::world::World;
 use anyhow::bail;
 use std::alloc::Global;
@@ -41,6 +44,17 @@ fn enumeration(
     Ok(())
 }
 
+/// The class of an array type.
+fn array_class(index: TypeId, element: TypeId, element_mark: DeclId) -> Class
+    ensures { result ≡ Class.ArrayType index element element_mark }
+{
+    Class::ArrayType {
+        index,
+        element,
+        element_mark,
+    }
+}
+
 /// An array type and its operators.
 fn array(
     alloc: Global,
@@ -53,42 +67,54 @@ fn array(
     let index = world.base(index_mark)?;
     let element_mark = world.find(alloc, element)?;
     let element = world.base(element_mark)?;
-    let class = Class::ArrayType {
-        index,
-        element,
-        element_mark,
-    };
-    let made = put(alloc, world, class, name, None)?;
+    let made = put(alloc, world, array_class(index, element, element_mark), name, None)?;
     let here = world.here;
-    let known = world.regions.is_region(here)
-        && world.regions.is_declaration(DeclId::of(index.number()))
-        && world.regions.is_declaration(DeclId::of(element.number()));
-    if !known {
+    if !world.regions.is_region(here) {
+        bail!("there is no such region");
+    }
+    if !world.regions.is_declaration(DeclId::of(index.number())) {
+        bail!("there is no such type");
+    }
+    if !world.regions.is_declaration(DeclId::of(element.number())) {
         bail!("there is no such type");
     }
     let own = TypeId::of(made.number());
+    let class = array_class(index, element, element_mark);
     if declare_operators(alloc, &mut world.regions, here, own, class).is_err() {
         bail!("the operators of {name} can't be entered");
     }
     Ok(())
 }
 
-/// Names with marks in a region: `name:mark`.
+/// A name with its mark in a region: `name:mark`.
+fn member(
+    alloc: Global,
+    world: &mut World,
+    region: RegionId,
+    is_parameter: bool,
+    word: &str,
+) -> anyhow::Result<DeclId> {
+    let Some((name, mark)) = word.split_once(':') else {
+        bail!("{word} has no mark");
+    };
+    let mark = world.find(alloc, mark)?;
+    let base = world.base(mark)?;
+    let class = if is_parameter { Class::Parameter } else { Class::RecordElement };
+    let id = world.enter(alloc, region, class, name, Some(base), Vec::new(alloc), None)?;
+    Ok(id)
+}
+
+/// Names with marks in a region.
 fn members(
     alloc: Global,
     world: &mut World,
     region: RegionId,
-    class: Class,
+    are_parameters: bool,
     words: &[&str],
 ) -> anyhow::Result<Vec<DeclId>> {
     let mut made = Vec::new(alloc);
     for word in words {
-        let Some((name, mark)) = word.split_once(':') else {
-            bail!("{word} has no mark");
-        };
-        let mark = world.find(alloc, mark)?;
-        let base = world.base(mark)?;
-        let id = world.enter(alloc, region, class, name, Some(base), Vec::new(alloc), None)?;
+        let id = member(alloc, world, region, are_parameters, word)?;
         made.push(id)?;
     }
     Ok(made)
@@ -104,7 +130,7 @@ fn record_type(
     let here = world.here;
     let inside = world.nest(here)?;
     world.here = here;
-    let ids = members(alloc, world, inside, Class::RecordElement, elements)?;
+    let ids = members(alloc, world, inside, false, elements)?;
     if world.regions.is_region(inside) {
         world.regions.close(inside);
     }
@@ -124,14 +150,14 @@ fn function(
     alloc: Global,
     world: &mut World,
     name: &str,
-    result: &str,
+    returned: &str,
     parameters: &[&str],
 ) -> anyhow::Result<()> {
     let here = world.here;
     let inside = world.nest(here)?;
     world.here = here;
-    let ids = members(alloc, world, inside, Class::Parameter, parameters)?;
-    let mark = world.find(alloc, result)?;
+    let ids = members(alloc, world, inside, true, parameters)?;
+    let mark = world.find(alloc, returned)?;
     let base = world.base(mark)?;
     world.enter(alloc, here, Class::Function, name, Some(base), ids, Some(inside))?;
     Ok(())
