@@ -1,0 +1,2 @@
+//! What expressions and statements mean, in both revisions: definitions that contracts cite.
+#![tactic(auto)]
