@@ -9,7 +9,7 @@ use Rattle.vd_composites.specs.Ranges.{is_within}
 use Rattle.vd_composites.specs.Scalars.{position_of, is_of, whole_range}
 use Rattle.vd_composites.specs.Composites.{Value, One, Array, Fields, Items, none, item}
 use Rattle.vd_composites.specs.Parts.{Step}
-use Rattle.vd_composites.specs.Subtypes.{Subtype, Scalars}
+use Rattle.vd_composites.specs.Subtypes.{Subtype, Scalars, Arrays}
 use Rattle.vd_kernel.specs.Models.{View}
 use Rattle.vd_environments.specs.Got.{Got, senseless}
 
@@ -211,10 +211,15 @@ with_value n v e = denoting n (record (e.denotes n) { value = v }) e
 abbrev pub made_here : Env → Make → Make
 made_here e make = if e.is_inside then made_inside make else make
 
+-- An object of an unconstrained array type has bounds that no text gives: those of its value.
+abbrev pub bounds_of_object : Subtype → Make → Make
+bounds_of_object (Arrays index None element) (OfElements bounds make) = OfElements (only_global bounds) make
+bounds_of_object _ make = make
+
 -- an object of a subtype, with a value
 abbrev pub with_object : ℕ → Subtype → Make → Value Scalar → Static → Env → Env
 with_object n s make v known e =
-    denoting n (record nothing_denoted { value = v; subtype = s; make = made_here e make; known = known }) e
+    denoting n (record nothing_denoted { value = v; subtype = s; make = made_here e (bounds_of_object s make); known = known }) e
 
 abbrev pub with_subtype : ℕ → Subtype → Make → Env → Env
 with_subtype n s make e = denoting n (record nothing_denoted { subtype = s; make = made_here e make }) e

@@ -1,6 +1,6 @@
 -- What predefined operators and given functions do, by their symbols and the types of their operands. (IEEE 1076, operators; IEEE 1164.) The values and
 -- stops are those of `applied`.
-use Rattle.std.specs.Prelude.{ℕ, ◌==◌, Bool, true, false, not, ◌&&◌, ◌||◌, List, [], ◌∷◌, map, Option, Some, None, Ok, bytes_eq, codes, if◌then◌else◌}
+use Rattle.std.specs.Prelude.{ℕ, ◌==◌, Bool, true, false, ◌&&◌, ◌||◌, List, [], ◌∷◌, map, Option, Some, None, Ok, bytes_eq, codes, if◌then◌else◌}
 use Rattle.vd_values.specs.declared.scalar.Scalar.{Scalar}
 use Rattle.vd_values.specs.declared.scalar.Scalar.TheVariants.{Literal}
 use Rattle.vd_values.specs.declared.logic.Logic.{Logic}
@@ -13,7 +13,6 @@ use Rattle.vd_composites.specs.Subtypes.{Subtype, Arrays}
 use Rattle.vd_subtypes.specs.Heads.{head_of}
 use Rattle.vd_subtypes.specs.declared.operands.OperandKind.{OperandKind}
 use Rattle.vd_subtypes.specs.declared.operands.OperandKind.TheVariants.{WholeArray, OneElement}
-use Rattle.vd_vectors.specs.declared.logics.LogicType.{LogicType}
 use Rattle.vd_vectors.specs.declared.logics.LogicType.TheVariants.{TwoValued, NineValued}
 use Rattle.vd_vectors.specs.declared.logical.LogicalOperator.{LogicalOperator}
 use Rattle.vd_vectors.specs.declared.logical.LogicalOperator.TheVariants as logical
@@ -22,7 +21,6 @@ use Rattle.vd_vectors.specs.declared.shifts.ShiftOperator.TheVariants as shift
 use Rattle.vd_vectors.specs.declared.orders.Relation.{Relation}
 use Rattle.vd_vectors.specs.declared.orders.Relation.TheVariants as relation
 use Rattle.vd_vectors.specs.Logics.{logic_in, truth}
-use Rattle.vd_operators.specs.declared.arithmetic.IntegerOperator.{IntegerOperator}
 use Rattle.vd_operators.specs.declared.arithmetic.IntegerOperator.TheVariants as integer
 use Rattle.vd_operators.specs.declared.arithmetic.SignOperator.TheVariants as sign
 use Rattle.vd_operators.specs.declared.arithmetic.TimeOperator.TheVariants as time
@@ -37,8 +35,8 @@ use Rattle.vd_operators.specs.Applied.{applied}
 use Rattle.vd_operators.specs.Texts.{text}
 use Rattle.vd_given.specs.Lines.{quoted}
 use Rattle.vd_environments.specs.Got.{Got, got, all_got, senseless}
-use Rattle.vd_environments.specs.Environments.{Argument, Function, Signals, ScalarSignal, Env, unknown}
-use Rattle.vd_meaning.specs.Tables.{Table, Sort, IntegerSort, TimeSort, LogicSort, LogicsSort, OtherSort, sort_of, same_type, operand_types, followed, is_predefined, is_brought}
+use Rattle.vd_environments.specs.Environments.{Argument, Function, Signals, Env, unknown}
+use Rattle.vd_meaning.specs.Tables.{Table, Sort, IntegerSort, TimeSort, LogicSort, LogicsSort, sort_of, same_type, operand_types, is_predefined, is_brought}
 
 -- ---- symbols
 

@@ -1,5 +1,5 @@
 -- The declarations of a design as a table, and what their classes and types are to a meaning.
-use Rattle.std.specs.Prelude.{ℕ, nat_lt, ◌==◌, ◌||◌, Bool, true, false, List, [], ◌∷◌, map, length, Option, Some, None, slice_index_or, if◌then◌else◌}
+use Rattle.std.specs.Prelude.{ℕ, nat_lt, ◌==◌, ◌||◌, Bool, true, false, List, [], map, Option, Some, None, slice_index_or, if◌then◌else◌}
 use Rattle.vd_trees.specs.declared.revision.Revision.{Revision}
 use Rattle.vd_trees.specs.declared.revision.Revision.TheVariants.{V2019, V1993}
 use Rattle.vd_declarations.specs.declared.classes.Class.{Class}
