@@ -8,3 +8,4 @@ pub mod Statements
 pub mod Declarations
 pub mod Kinds
 pub mod Meanings
+pub mod Given
