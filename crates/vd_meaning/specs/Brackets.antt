@@ -77,16 +77,17 @@ called_with _ t d n ms p = call t d (arguments_for 0 (t.declared d).parameters m
 abbrev pub operation_called : Table → ℕ → Operation
 operation_called t d = if is_predefined t d then operation t d else Rattle.vd_meaning.specs.Operators.NoOperation
 
-abbrev pub element_or_slice : Bool → Resolved → List Meaning → Named → Named
-element_or_slice true n ms p = stepped (to_slice (λ e. or_senseless (nth 0 ms).range >>= λ f. f e) (nth 0 ms).known (nth 0 ms).reads) n.mark p
-element_or_slice false n ms p = stepped (to_element (value_of (nth 0 ms)) (nth 0 ms).known (nth 0 ms).reads) n.mark p
+-- a range in brackets is a slice, and a value an element
+abbrev pub element_or_slice : Option (Env → Got Bounds) → Resolved → List Meaning → Named → Named
+element_or_slice (Some range) n ms p = stepped (to_slice range (nth 0 ms).known (nth 0 ms).reads) n.mark p
+element_or_slice None n ms p = stepped (to_element (value_of (nth 0 ms)) (nth 0 ms).known (nth 0 ms).reads) n.mark p
 
 abbrev pub by_role : Role → Table → Resolved → List Meaning → Named → Named
 by_role FunctionRole t n ms p =
     called_with (operation_called t (followed t (number_or n.declaration))) t (followed t (number_or n.declaration)) n ms p
 by_role MarkRole t n ms p =
-    conversion (number_or n.declaration) n.mark (value_of (nth 0 ms)) (nth 0 ms).known (argument_read p ms)
-by_role _ t n ms p = element_or_slice (same_type n.mark p.mark) n ms p
+    conversion (number_or n.declaration) n.mark (value_of (nth 0 ms)) (nth 0 ms).known (argument_read p ms) (nth 0 ms).name.signals
+by_role _ t n ms p = element_or_slice (nth 0 ms).range n ms p
 
 abbrev pub by_callee : Callee → Table → Resolved → List Meaning → Named → Named
 by_callee (Attributed attribute) t n ms p =
@@ -234,4 +235,4 @@ bracketed_known ms e = only_global (known_of ms e)
 -- a qualified expression: the mark gives the subtype
 abbrev pub qualification_piece : Table → Resolved → List Meaning → Named → Named
 qualification_piece t n ms p =
-    conversion (number_or n.declaration) n.mark (λ e. bracketed_value n.mark ms (Ok (e.denotes (number_or n.declaration)).subtype) e) (bracketed_known ms) (argument_read p ms)
+    conversion (number_or n.declaration) n.mark (λ e. bracketed_value n.mark ms (Ok (e.denotes (number_or n.declaration)).subtype) e) (bracketed_known ms) (argument_read p ms) (λ _. senseless)

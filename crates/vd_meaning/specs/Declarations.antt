@@ -10,7 +10,7 @@ use Rattle.vd_composites.specs.Scalars.{whole_range}
 use Rattle.vd_composites.specs.Composites.{Value}
 use Rattle.vd_composites.specs.Subtypes.{Subtype, Scalars, Arrays, Records, Subtypes, no_more, and_more, fit, default_of, constrained}
 use Rattle.vd_environments.specs.Got.{Got, got}
-use Rattle.vd_environments.specs.Environments.{Static, always, never, OfScalar, OfElements, OfFields, Makes, no_makes, and_make, made_narrower, all_bounds, Env, with_object, with_subtype, with_function, Indicated, or_senseless}
+use Rattle.vd_environments.specs.Environments.{Static, always, never, OfScalar, OfElements, OfFields, Makes, no_makes, and_make, made_narrower, own_bounds, all_bounds, Env, with_object, with_subtype, with_function, Indicated, or_senseless}
 use Rattle.vd_environments.specs.Commands.{Command, Skip, acting}
 use Rattle.vd_environments.specs.Functions.{Parameter, called}
 use Rattle.vd_meaning.specs.Names.{scalars_of, scalar_type}
@@ -45,9 +45,9 @@ enumeration literals =
     }
 
 -- An array type of any bounds has the index subtype of a mark; another one has a range, which is its index subtype and its bounds.
-abbrev pub unconstrained_array : ScalarSubtype → Indicated → Indicated
-unconstrained_array index element =
-    record { subtype = Arrays index None element.subtype; make = OfElements always element.make }
+abbrev pub unconstrained_array : ScalarSubtype → Static → Indicated → Indicated
+unconstrained_array index known element =
+    record { subtype = Arrays index None element.subtype; make = OfElements known element.make }
 
 abbrev pub constrained_array : ScalarType → Bounds → Static → Indicated → Indicated
 constrained_array t b known element =
@@ -56,7 +56,7 @@ constrained_array t b known element =
 -- the index, then the elements
 abbrev pub array_type : Meaning → Meaning → Env → Got Indicated
 array_type index element e =
-    if index.is_open then (index.name.subtype e >>= scalars_of >>= λ s. element.indicated e >>= λ i. Ok (unconstrained_array s i))
+    if index.is_open then (index.name.subtype e >>= scalars_of >>= λ s. element.indicated e >>= λ i. Ok (unconstrained_array s (own_bounds (index.name.make e)) i))
     else (scalar_type index.mark e >>= λ t. or_senseless index.range >>= λ range. range e >>= λ b. element.indicated e >>= λ i. Ok (constrained_array t b (index.known e) i))
 
 abbrev pub subtypes_of : List Indicated → Subtypes

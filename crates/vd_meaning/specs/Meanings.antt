@@ -17,7 +17,7 @@ use Rattle.vd_environments.specs.Processes.{Process}
 use Rattle.vd_meaning.specs.Tables.{Table, followed}
 use Rattle.vd_meaning.specs.Operators.{function_of, marked}
 use Rattle.vd_meaning.specs.Literals.{number, integer, physical, string}
-use Rattle.vd_meaning.specs.Names.{Named, first_piece, stepped, to_field, attributed, attribute_named, RangeOf, call_known, number_or, name_read, and_read, position_in, unless_stopped}
+use Rattle.vd_meaning.specs.Names.{Named, literal_known, first_piece, stepped, to_field, attributed, attribute_named, RangeOf, call_known, number_or, name_read, and_read, position_in, unless_stopped}
 use Rattle.vd_meaning.specs.Tables.{Role, ElementRole, role_of}
 use Rattle.vd_meaning.specs.Facets.{Meaning, no_meaning, nth, from, flattened, reads_of, targets_of, known_of, value_of, arguments, of_node, expression, commanding, ByChoices, ForOthers, Body}
 use Rattle.vd_meaning.specs.Brackets.{choice_of, or_else, arguments_piece, qualification_piece, bracketed_value, bracketed_known}
@@ -130,7 +130,7 @@ meaning_of Kinds.Parts t n text ms = of_node n text ms
 -- leaves and literals
 meaning_of Kinds.Word t n text ms = record (of_node n text ms) { name = first_piece t n; texts = text ∷ []; numbers = option_to_list n.declaration }
 meaning_of Kinds.CharacterLiteral t n text ms =
-    record (expression n text ms (λ _ _. Ok (One (Literal n.position))) (λ _. always)) { texts = (39 ∷ (text ++ 39 ∷ [])) ∷ [] }
+    record (expression n text ms (λ _ _. Ok (One (Literal n.position))) (literal_known n.mark)) { texts = (39 ∷ (text ++ 39 ∷ [])) ∷ [] }
 meaning_of Kinds.StringLiteral t n text ms =
     record (expression n text ms (λ _ e. marked n.mark e >>= λ s. string s (e.denotes (number_or n.mark)).make text) (λ e. all_bounds (e.denotes (number_or n.mark)).make))
     { name = first_piece t n }

@@ -11,7 +11,7 @@ use Rattle.vd_composites.specs.declared.scalars.ScalarSubtype.{ScalarSubtype}
 use Rattle.vd_composites.specs.Stops.{◌>>=◌}
 use Rattle.vd_composites.specs.Scalars.{position_of}
 use Rattle.vd_composites.specs.Composites.{Value, One, Array, none, bounds_of, scalar_of, leaves}
-use Rattle.vd_composites.specs.Parts.{Step, AtIndex, AtSlice, AtField, part}
+use Rattle.vd_composites.specs.Parts.{Step, AtIndex, AtSlice, AtField, part, reached}
 use Rattle.vd_composites.specs.Subtypes.{Subtype, Scalars, Arrays, Records, Subtypes, no_more, and_more}
 use Rattle.vd_subtypes.specs.Heads.{head_of}
 use Rattle.vd_vectors.specs.Logics.{truth}
@@ -191,8 +191,13 @@ signal d mark =
       is_whole = λ _. true;
     }
 
+-- a literal of an enumeration type, which is known wherever the type is
+abbrev pub literal_known : Option ℕ → Env → Static
+literal_known None e = never
+literal_known (Some d) e = own_bounds (e.denotes d).make
+
 abbrev pub literal : ℕ → Option ℕ → Named
-literal position mark = record no_name { value = λ _. Ok (One (Literal position)); mark = mark; known = λ _. always }
+literal position mark = record no_name { value = λ _. Ok (One (Literal position)); mark = mark; known = literal_known mark }
 
 -- a type or subtype; where it is of scalars it may stand for its range, and where it is a constrained array it has bounds
 abbrev pub mark_of : ℕ → Option ℕ → Named
@@ -284,11 +289,15 @@ abbrev pub part_prefix : Named → Stepping → Option (Env → Got Signals) →
 part_prefix p s None = None
 part_prefix p s (Some prefix) = Some (λ e. prefix e >>= λ v. if goes_on p s e then (s.to e >>= λ to. got (part to v)) else Ok v)
 
+-- a part of a variable, which is there
+abbrev pub part_place : Env → Place → Got Place
+part_place e p = got (reached p.steps (e.denotes p.object).value) >>= λ v. Ok p
+
 abbrev pub stepped : Stepping → Option ℕ → Named → Named
 stepped s mark p =
     record no_name {
       value = part_value p.prefix (part_signals p s) (part_of_value p s);
-      place = λ e. p.place e >>= λ at. s.to e >>= λ to. Ok (further to at);
+      place = λ e. p.place e >>= λ at. s.to e >>= λ to. part_place e (further to at);
       signals = part_signals p s;
       shape = part_shape p.prefix (part_signals p s) (part_of_value p s);
       subtype = λ e. p.subtype e >>= s.subtype e;
@@ -424,6 +433,7 @@ converted s v = got (applied (Unary (one.Conversion (head_of s))) (v ∷ []))
 abbrev pub conversion_known : ℕ → (Env → Static) → Env → Static
 conversion_known d known e = both (all_bounds (e.denotes d).make) (known e)
 
-abbrev pub conversion : ℕ → Option ℕ → (Env → Got (Value Scalar)) → (Env → Static) → (Env → Got (List Signals)) → Named
-conversion d mark operand known inner =
-    fresh (λ e. operand e >>= converted (e.denotes d).subtype) mark (conversion_known d known) inner
+-- A conversion of the name of a signal is still made of its scalar signals, which matters in associations.
+abbrev pub conversion : ℕ → Option ℕ → (Env → Got (Value Scalar)) → (Env → Static) → (Env → Got (List Signals)) → (Env → Got Signals) → Named
+conversion d mark operand known inner signals =
+    record (fresh (λ e. operand e >>= converted (e.denotes d).subtype) mark (conversion_known d known) inner) { signals = signals }

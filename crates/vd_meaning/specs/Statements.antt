@@ -13,7 +13,7 @@ use Rattle.vd_composites.specs.Stops.{◌>>=◌}
 use Rattle.vd_composites.specs.Ranges.{is_within, values_in}
 use Rattle.vd_composites.specs.Scalars.{scalar_at}
 use Rattle.vd_composites.specs.Composites.{Value, One, leaves, same_value}
-use Rattle.vd_composites.specs.Parts.{reached, changed}
+use Rattle.vd_composites.specs.Parts.{changed}
 use Rattle.vd_composites.specs.Subtypes.{Subtype, fit}
 use Rattle.vd_vectors.specs.declared.logics.LogicType.{LogicType}
 use Rattle.vd_vectors.specs.declared.logics.LogicType.TheVariants.{NineValued}
@@ -37,11 +37,10 @@ truth_of m e = value_of m e >>= truth_in
 
 -- ---- assignments
 
--- A variable assignment: the value; the indexes of the target, and that there is such a part; then whether the value fits.
+-- A variable assignment: the value; the target with its indexes; then whether the value fits.
 abbrev pub put : Place → Subtype → Value Scalar → Env → Got Env
 put p s v e =
-    got (reached p.steps (e.denotes p.object).value) >>= λ old. got (fit s v) >>= λ w.
-    got (changed p.steps w (e.denotes p.object).value) >>= λ new. Ok (with_value p.object new e)
+    got (fit s v) >>= λ w. got (changed p.steps w (e.denotes p.object).value) >>= λ new. Ok (with_value p.object new e)
 
 abbrev pub setting : Named → Waveform → Command
 setting target w =

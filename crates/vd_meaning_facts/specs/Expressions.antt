@@ -2,7 +2,7 @@
 use Rattle.std.specs.Prelude.{◌≡◌, ℕ, ◌==◌, pos, negsuc, Bool, true, false, List, [], ◌∷◌, Option, Some, None, Ok, codes, if◌then◌else◌}
 use Rattle.vd_values.specs.declared.scalar.Scalar.{Scalar}
 use Rattle.vd_values.specs.declared.scalar.Scalar.TheVariants.{Integer, Literal, Time}
-use Rattle.vd_values.specs.declared.scalar.StopKind.TheVariants.{Range, Index, Length, Overflow, DivideByZero}
+use Rattle.vd_values.specs.declared.scalar.StopKind.TheVariants.{Index, Length, Overflow, DivideByZero}
 use Rattle.vd_declarations.specs.declared.classes.Class.TheVariants as class
 use Rattle.vd_declarations.specs.declared.declarations.Declaration.{Declaration}
 use Rattle.vd_forest.specs.Forest.{Forest}
@@ -10,14 +10,14 @@ use Rattle.vd_forms.specs.declared.form.Form.TheVariants as form
 use Rattle.vd_resolved.specs.declared.node.Resolved.{Resolved}
 use Rattle.vd_composites.specs.declared.ranges.Bounds.{Bounds}
 use Rattle.vd_composites.specs.declared.scalars.ScalarType.TheVariants.{Integers, Enumeration}
-use Rattle.vd_composites.specs.Composites.{Value, One, Array, Fields, Items, none, item, items_of}
+use Rattle.vd_composites.specs.Composites.{Value, One, Array, items_of}
 use Rattle.vd_composites.specs.Subtypes.{Subtype, Arrays}
 use Rattle.vd_given.specs.Entries.{declared}
-use Rattle.vd_given.specs.declared.numbers.TheConstants.{BOOLEAN, BIT, INTEGER, TIME, NATURAL, STRING, BIT_VECTOR, STD_ULOGIC, STD_ULOGIC_VECTOR, STD_LOGIC_VECTOR}
+use Rattle.vd_given.specs.declared.numbers.TheConstants.{BOOLEAN, BIT, INTEGER, TIME, STRING, BIT_VECTOR, STD_ULOGIC}
 use Rattle.vd_environments.specs.Got.{Got, stop}
-use Rattle.vd_environments.specs.Environments.{Env, Signals, always, never, Make, OfElements, no_make, Indicated, denoting, nothing_denoted, with_object, with_subtype, with_signals, with_function, unknown}
+use Rattle.vd_environments.specs.Environments.{Env, Signals, always, never, OfElements, no_make, Indicated, with_object, with_subtype, with_signals, unknown}
 use Rattle.vd_meaning.specs.Given.{given_env, whole, numbers_from, arrays, scalars, enumeration, bits}
-use Rattle.vd_meaning_facts.specs.Trees.{own, object, node, plain, absent, of, leaf, operator, number_of, number, letter, quotes, first, name, longer, arguments, attribute, mark_piece, downto, upto, associated, others, meaning}
+use Rattle.vd_meaning_facts.specs.Trees.{own, object, node, of, leaf, operator, number_of, number, letter, quotes, first, name, longer, arguments, attribute, mark_piece, downto, upto, associated, others, meaning}
 
 -- ---- declarations: type ints is array (natural range <>) of integer; variable v : ints(7 downto 5) := (10, 20, 30); variable n : integer := 3;
 -- signal s : std_ulogic; signal b : bit_vector(3 downto 0); subtype nibble is bit_vector(3 downto 0)

@@ -1,22 +1,17 @@
 -- Resolved trees that are written out by hand, and the declarations round them.
 use Rattle.std.specs.Prelude.{ℕ, suc, ◌+◌, ◌==◌, ◌&&◌, pos, Bool, true, false, List, [], ◌∷◌, ◌++◌, map, length, Option, Some, None, bytes_eq, codes, if◌then◌else◌}
-use Rattle.vd_values.specs.declared.scalar.Scalar.{Scalar}
-use Rattle.vd_values.specs.declared.scalar.Scalar.TheVariants.{Integer, Literal}
 use Rattle.vd_trees.specs.declared.revision.Revision.TheVariants.{V2019}
 use Rattle.vd_declarations.specs.declared.classes.Class.{Class}
-use Rattle.vd_declarations.specs.declared.classes.Class.TheVariants as class
 use Rattle.vd_declarations.specs.declared.declarations.Declaration.{Declaration}
 use Rattle.vd_forest.specs.Forest.{Forest, nothing, more, no_place}
 use Rattle.vd_forms.specs.declared.form.Form.{Form}
 use Rattle.vd_forms.specs.declared.form.Form.TheVariants as form
 use Rattle.vd_resolved.specs.declared.node.Resolved.{Resolved}
 use Rattle.vd_resolved.specs.Trees.{side_by_side}
-use Rattle.vd_composites.specs.Composites.{Value, One, Array, items_of}
-use Rattle.vd_composites.specs.Ranges.{from_one}
 use Rattle.vd_given.specs.Given.{given_scopes}
 use Rattle.vd_given.specs.Entries.{declared}
 use Rattle.vd_given.specs.Lines.{quoted}
-use Rattle.vd_meaning.specs.Tables.{Table, table, same_type, no_declaration}
+use Rattle.vd_meaning.specs.Tables.{table, same_type, no_declaration}
 use Rattle.vd_meaning.specs.Facets.{Meaning, nth}
 use Rattle.vd_meaning.specs.Meanings.{meanings}
 
