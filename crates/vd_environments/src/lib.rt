@@ -1,0 +1,2 @@
+//! What expressions are evaluated in, what statements do, and processes as the kernel runs them: definitions that contracts cite.
+#![tactic(auto)]

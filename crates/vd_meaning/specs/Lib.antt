@@ -1,0 +1,11 @@
+pub mod Tables
+pub mod Operators
+pub mod Literals
+pub mod Names
+pub mod Facets
+pub mod Brackets
+pub mod Statements
+pub mod Declarations
+pub mod Kinds
+pub mod Meanings
+pub mod Given

@@ -1,0 +1,4 @@
+//! What expressions and statements mean, in both revisions: definitions that contracts cite.
+#![tactic(auto)]
+
+pub mod laws;

@@ -1,0 +1,4 @@
+//! Trees that are written out by hand, and what the definitions say that they mean: facts that are computed.
+#![tactic(auto)]
+
+pub mod facts;
