@@ -1,7 +1,6 @@
 -- What is found of lists of readings that are joined, and of those by a way of a node. No name has a dash, so that a caller can name
 -- each in `#[tactic(auto, using(..))]`.
-use Rattle.std.proofs.Common.{◌≡◌, ◌≤◌, ◌+◌, ◌*◌, ◌⊎◌, inl, inr, ℕ, zero, suc, List, [], ◌∷◌, ◌++◌, map, length, refl, sym, ap, subst, ◌∙◌, arith, length-append}
-use Rattle.std.specs.List.{flat_map}
+use Rattle.std.proofs.Common.{◌≡◌, ◌≤◌, ◌*◌, ◌⊎◌, inl, inr, ℕ, List, [], ◌∷◌, ◌++◌, map, length, refl, sym, ap, subst, ◌∙◌, arith, length-append}
 use Rattle.std.proofs.Math.Nat.{mul-le-mul_left}
 use Rattle.std.proofs.lemmas.List.{length-map}
 use Rattle.vd_bytes.specs.declared.places.Place.{Place}
@@ -43,12 +42,13 @@ pub several_by_some : (gs : List (Forest Resolved)) (a b : Found) (xs ys : List 
 several_by_some gs a b xs ys several some first second =
     let many : 2 ≤ length xs = subst (λ f. IsFound gs f xs) several first in
     elim some [
-        inl one ↦
+      | inl one ↦
           let only = subst (λ f. IsFound gs f ys) one.1 second in
           subst (λ n. 2 ≤ length xs * n) (sym (ap length only.only)) (omega (arith, many))
       | inr more_than_one ↦
           let more_ys : 2 ≤ length ys = subst (λ f. IsFound gs f ys) more_than_one second in
-          omega (arith, mul-le-mul_left (length xs) more_ys, many) ]
+          omega (arith, mul-le-mul_left (length xs) more_ys, many)
+    ]
 
 -- ---- a node before each list of trees, over each list of parts
 
@@ -60,8 +60,12 @@ module _ (node : Resolved) (text : List ℕ) (place : Place) where
   pub length_with_node : (inners rests : List (Forest Resolved)) → length (with_node node text place inners rests) ≡ length inners * length rests
   length_with_node [] rests = omega arith
   length_with_node (inner ∷ inners) rests =
-      omega (arith, length-append (map (more node text place inner) rests) (with_node node text place inners rests),
-        length-map rests (more node text place inner), length_with_node inners rests)
+      omega (
+        arith,
+        length-append (map (more node text place inner) rests) (with_node node text place inners rests),
+        length-map rests (more node text place inner),
+        length_with_node inners rests,
+      )
 
   pub one_with_node : (inners rests : List (Forest Resolved)) (inner rest : Forest Resolved) → inners ≡ inner ∷ [] → rests ≡ rest ∷ []
       → with_node node text place inners rests ≡ more node text place inner rest ∷ []
@@ -94,8 +98,11 @@ module _ (rules : Rules) (f : Forest Form) (way : Way) where
       → 2 ≤ length (readings rules (parts_of f) way.inside) * length (readings rules (next_of f) way.after) → 2 ≤ length (given_by rules f way)
   given_several form text place parts next opened several =
       subst (λ g. 2 ≤ length (given_by rules g way)) (sym opened)
-      (omega (arith, length_with_node (resolved form way) text place (readings rules parts way.inside) (readings rules next way.after),
-        subst (λ g. 2 ≤ length (readings rules (parts_of g) way.inside) * length (readings rules (next_of g) way.after)) opened several))
+      (omega (
+        arith,
+        length_with_node (resolved form way) text place (readings rules parts way.inside) (readings rules next way.after),
+        subst (λ g. 2 ≤ length (readings rules (parts_of g) way.inside) * length (readings rules (next_of g) way.after)) opened several,
+      ))
 
   pub given_only : (gs hs : List (Forest Resolved)) (inner rest made : ℕ) (form : Form) (text : List ℕ) (place : Place) (parts next : Forest Form)
       → f ≡ more form text place parts next
@@ -105,8 +112,8 @@ module _ (rules : Rules) (f : Forest Form) (way : Way) where
     within = held.within;
     only = ap (λ g. given_by rules g way) opened
         ∙ one_with_node (resolved form way) text place (readings rules parts way.inside) (readings rules next way.after) (at gs inner) (at gs rest)
-          (subst (λ g. readings rules (parts_of g) way.inside ≡ at gs inner ∷ []) opened inside.only)
-          (subst (λ g. readings rules (next_of g) way.after ≡ at gs rest ∷ []) opened behind.only)
+        (subst (λ g. readings rules (parts_of g) way.inside ≡ at gs inner ∷ []) opened inside.only)
+        (subst (λ g. readings rules (next_of g) way.after ≡ at gs rest ∷ []) opened behind.only)
         ∙ ap (λ g. g ∷ []) (sym held.is);
   }
 

@@ -1,5 +1,5 @@
 -- Members of lists.
-use Rattle.std.proofs.Common.{◌≡◌, ◌⊎◌, inl, inr, ℕ, zero, suc, List, [], ◌∷◌, ◌++◌, map, refl, sym, ap, subst, ◌∙◌, arith}
+use Rattle.std.proofs.Common.{◌≡◌, ◌⊎◌, inl, inr, zero, suc, List, [], ◌∷◌, ◌++◌, map, refl, sym, ap, subst, ◌∙◌, arith}
 use Rattle.std.specs.List.{Contains, flat_map}
 use Rattle.std.proofs.lemmas.List.Elements.{Contains-append_left, Contains-append_right, Contains-append_cases}
 
@@ -24,14 +24,16 @@ module _ {X A : Type 0} (f : X → List A) where
   pub in_flat_map : (xs : List X) (x : X) (y : A) → Contains xs x → Contains (f x) y → Contains (flat_map f xs) y
   in_flat_map [] x y c d = absurd (no_member x c)
   in_flat_map (z ∷ xs) x y c d = elim (cons_cases z xs x c) [
-      inl e ↦ Contains-append_left (f z) (flat_map f xs) y (subst (λ w. Contains (f w) y) (sym e) d)
-    | inr r ↦ Contains-append_right (f z) (flat_map f xs) y (in_flat_map xs x y r d) ]
+    | inl e ↦ Contains-append_left (f z) (flat_map f xs) y (subst (λ w. Contains (f w) y) (sym e) d)
+    | inr r ↦ Contains-append_right (f z) (flat_map f xs) y (in_flat_map xs x y r d)
+  ]
 
   pub from_flat_map : (xs : List X) (y : A) → Contains (flat_map f xs) y → (x : X) × Contains xs x × Contains (f x) y
   from_flat_map [] y c = absurd (no_member y c)
   from_flat_map (z ∷ xs) y c = elim (Contains-append_cases (f z) (flat_map f xs) y c) [
-      inl a ↦ (z, cons_here z xs, a)
-    | inr r ↦ let rest = from_flat_map xs y r in (rest.0, cons_there z xs rest.0 rest.1, rest.2) ]
+    | inl a ↦ (z, cons_here z xs, a)
+    | inr r ↦ let rest = from_flat_map xs y r in (rest.0, cons_there z xs rest.0 rest.1, rest.2)
+  ]
 
   -- the same of each member
   pub flat_map_same : (g : X → List A) (xs : List X) → ((x : X) → Contains xs x → f x ≡ g x) → flat_map f xs ≡ flat_map g xs
@@ -44,11 +46,13 @@ module _ {X Y : Type 0} (f : X → Y) where
   pub in_map : (xs : List X) (x : X) → Contains xs x → Contains (map f xs) (f x)
   in_map [] x c = absurd (no_member x c)
   in_map (z ∷ xs) x c = elim (cons_cases z xs x c) [
-      inl e ↦ subst (λ w. Contains (f z ∷ map f xs) (f w)) e (cons_here (f z) (map f xs))
-    | inr r ↦ cons_there (f z) (map f xs) (f x) (in_map xs x r) ]
+    | inl e ↦ subst (λ w. Contains (f z ∷ map f xs) (f w)) e (cons_here (f z) (map f xs))
+    | inr r ↦ cons_there (f z) (map f xs) (f x) (in_map xs x r)
+  ]
 
   pub from_map : (xs : List X) (y : Y) → Contains (map f xs) y → (x : X) × Contains xs x × (f x ≡ y)
   from_map [] y c = absurd (no_member y c)
   from_map (z ∷ xs) y c = elim (cons_cases (f z) (map f xs) y c) [
-      inl e ↦ (z, cons_here z xs, e)
-    | inr r ↦ let rest = from_map xs y r in (rest.0, cons_there z xs rest.0 rest.1, rest.2) ]
+    | inl e ↦ (z, cons_here z xs, e)
+    | inr r ↦ let rest = from_map xs y r in (rest.0, cons_there z xs rest.0 rest.1, rest.2)
+  ]

@@ -1,10 +1,7 @@
 -- Members of a memo.
-use Rattle.std.proofs.Common.{◌≡◌, ◌⊎◌, inl, inr, ℕ, zero, suc, Bool, true, false, nat_eq, List, [], ◌∷◌, ◌++◌, Option, Some, None, if◌then◌else◌, refl, sym, ap, subst, ◌∙◌, arith, rules}
+use Rattle.std.proofs.Common.{◌≡◌, ◌⊎◌, inl, inr, ℕ, Bool, true, nat_eq, List, [], ◌∷◌, if◌then◌else◌, refl, sym, ap, subst, ◌∙◌}
 use Rattle.std.specs.List.{Contains}
-use Rattle.std.specs.Map.{lookup}
-use Rattle.std.specs.Option.{IfSome}
 use Rattle.std.proofs.lemmas.Bool.{cases_Bool, and_parts, eqb-true}
-use Rattle.std.proofs.lemmas.Map.Views.{IfSome-lookup}
 use Rattle.indexmap.specs.IndexMap.{insert_entry}
 use Rattle.vd_readings.specs.declared.found.Found.{Found}
 use Rattle.vd_readings.specs.declared.trials.Asked.{Asked}
@@ -31,13 +28,16 @@ module _ (eq : Asked → Asked → Bool) (same : (a b : Asked) → eq a b ≡ tr
       → Contains (insert_entry eq es asked found) (a, f) → ((a ≡ asked) × (f ≡ found)) ⊎ Contains es (a, f)
   put_others asked found [] a f c = inl (first_parts a asked f found [] (asked, found) (single (asked, found) (a, f) c) refl)
   put_others asked found (e ∷ es) a f c = elim (cases_Bool (eq asked e.0)) [
-      inl t ↦
+    | inl t ↦
         let d = subst (λ zs. Contains zs (a, f)) (ap (λ b. if b then (e.0, found) ∷ es else e ∷ insert_entry eq es asked found) t) c in
         elim (cons_cases (e.0, found) es (a, f) d) [
-          inl is ↦ let p = first_parts a e.0 f found es (e.0, found) is refl in inl (p.0 ∙ sym (same asked e.0 t), p.1)
-        | inr later ↦ inr (cons_there e es (a, f) later) ]
+          | inl is ↦ let p = first_parts a e.0 f found es (e.0, found) is refl in inl (p.0 ∙ sym (same asked e.0 t), p.1)
+          | inr later ↦ inr (cons_there e es (a, f) later)
+        ]
     | inr n ↦
         let d = subst (λ zs. Contains zs (a, f)) (ap (λ b. if b then (e.0, found) ∷ es else e ∷ insert_entry eq es asked found) n) c in
         elim (cons_cases e (insert_entry eq es asked found) (a, f) d) [
-          inl is ↦ inr (subst (λ z. Contains (e ∷ es) z) is (cons_here e es))
-        | inr later ↦ elim (put_others asked found es a f later) [ inl p ↦ inl p | inr older ↦ inr (cons_there e es (a, f) older) ] ] ]
+          | inl is ↦ inr (subst (λ z. Contains (e ∷ es) z) is (cons_here e es))
+          | inr later ↦ elim (put_others asked found es a f later) [ inl p ↦ inl p | inr older ↦ inr (cons_there e es (a, f) older) ]
+        ]
+  ]

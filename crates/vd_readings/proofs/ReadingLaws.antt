@@ -1,15 +1,13 @@
 -- The readings of a forest are exactly the typed trees over it, and go with the language.
-use Rattle.std.proofs.Common.{◌≡◌, ◌⊎◌, inl, inr, ℕ, Bool, true, false, List, [], ◌∷◌, map, IsTrue, if◌then◌else◌, refl, sym, ap, subst, ◌∙◌, true≢false}
+use Rattle.std.proofs.Common.{◌≡◌, ℕ, Bool, true, false, List, [], ◌∷◌, map, IsTrue, if◌then◌else◌, refl, sym, ap, subst, ◌∙◌, true≢false}
 use Rattle.std.specs.List.{Contains, flat_map}
 use Rattle.vd_bytes.specs.declared.places.Place.{Place}
 use Rattle.vd_forest.specs.Forest.{Forest, nothing, more}
-use Rattle.vd_forms.specs.declared.form.Form.{Form}
 use Rattle.vd_resolved.specs.Trees.{syntax_of}
 use Rattle.vd_resolved.specs.declared.node.Resolved.{Resolved}
 use Rattle.vd_states.specs.declared.states.State.{State}
-use Rattle.vd_states.specs.declared.ways.Way.{Way}
 use Rattle.vd_readings.specs.Readings.{Rules, resolved, with_node, readings}
-use Rattle.vd_readings.specs.Typed.{IsTyped, IsReading, ReadingsAreTyped, TypedAreReadings, Agree, AgreeingReadAlike, IsWithin, WiderReadsMore}
+use Rattle.vd_readings.specs.Typed.{IsTyped, ReadingsAreTyped, TypedAreReadings, AgreeingReadAlike, WiderReadsMore}
 use Rattle.vd_readings.proofs.MemberLemmas.{no_member, cons_here, single, in_flat_map, from_flat_map, flat_map_same, in_map, from_map}
 
 -- ---- members of a node with lists of parts and of trees behind it
@@ -56,7 +54,7 @@ readings_typed rules nothing state reading c =
     record { source = ap syntax_of (sym is.1); typed = subst (λ r. IsTyped rules r state) is.1 is.0 }
 readings_typed rules (more form text place parts next) state reading c =
     let by_way = from_flat_map (λ way. with_node (resolved form way) text place (readings rules parts way.inside) (readings rules next way.after))
-      (rules.ways state form text parts) reading c in
+    (rules.ways state form text parts) reading c in
     let way = by_way.0 in
     let by = from_with_node (resolved form way) text place (readings rules parts way.inside) (readings rules next way.after) reading by_way.2 in
     let inside = readings_typed rules parts way.inside by.inner by.inside in
@@ -76,9 +74,9 @@ typed_readings_of rules (more node text place parts next) state typed =
     (λ v. with_node (resolved node.form v) text place (readings rules (syntax_of parts) v.inside) (readings rules (syntax_of next) v.after))
     (rules.ways state node.form text (syntax_of parts)) way (more node text place parts next) typed.1
     (subst (λ n. Contains (with_node (resolved node.form way) text place (readings rules (syntax_of parts) way.inside) (readings rules (syntax_of next) way.after)) (more n text place parts next))
-      (sym typed.2)
-      (in_with_node (resolved node.form way) text place (readings rules (syntax_of parts) way.inside) (readings rules (syntax_of next) way.after) parts next
-        (typed_readings_of rules parts way.inside typed.3) (typed_readings_of rules next way.after typed.4)))
+    (sym typed.2)
+    (in_with_node (resolved node.form way) text place (readings rules (syntax_of parts) way.inside) (readings rules (syntax_of next) way.after) parts next
+    (typed_readings_of rules parts way.inside typed.3) (typed_readings_of rules next way.after typed.4)))
 
 pub typed_readings : TypedAreReadings
 typed_readings rules f state reading is =
@@ -93,7 +91,7 @@ agreeing_alike a b (more form text place parts next) state agree =
     (λ way. with_node (resolved form way) text place (readings b parts way.inside) (readings b next way.after))
     (a.ways state form text parts)
     (λ way c. ap (λ is. with_node (resolved form way) text place is (readings a next way.after)) (agreeing_alike a b parts way.inside (agree.1 way c).0)
-      ∙ ap (with_node (resolved form way) text place (readings b parts way.inside)) (agreeing_alike a b next way.after (agree.1 way c).1))
+    ∙ ap (with_node (resolved form way) text place (readings b parts way.inside)) (agreeing_alike a b next way.after (agree.1 way c).1))
     ∙ ap (flat_map (λ way. with_node (resolved form way) text place (readings b parts way.inside) (readings b next way.after))) agree.0
 
 pub wider_more : WiderReadsMore
@@ -102,11 +100,11 @@ wider_more a b nothing state reading within c =
     subst (Contains (readings b nothing state)) is.1 (has_nothing (b.ends state) (within.ends state is.0))
 wider_more a b (more form text place parts next) state reading within c =
     let by_way = from_flat_map (λ way. with_node (resolved form way) text place (readings a parts way.inside) (readings a next way.after))
-      (a.ways state form text parts) reading c in
+    (a.ways state form text parts) reading c in
     let way = by_way.0 in
     let by = from_with_node (resolved form way) text place (readings a parts way.inside) (readings a next way.after) reading by_way.2 in
     in_flat_map (λ v. with_node (resolved form v) text place (readings b parts v.inside) (readings b next v.after))
     (b.ways state form text parts) way reading (within.ways state form text parts way by_way.1)
     (subst (Contains (with_node (resolved form way) text place (readings b parts way.inside) (readings b next way.after))) by.is
-      (in_with_node (resolved form way) text place (readings b parts way.inside) (readings b next way.after) by.inner by.rest
-        (wider_more a b parts way.inside by.inner within by.inside) (wider_more a b next way.after by.rest within by.behind)))
+    (in_with_node (resolved form way) text place (readings b parts way.inside) (readings b next way.after) by.inner by.rest
+    (wider_more a b parts way.inside by.inner within by.inside) (wider_more a b next way.after by.rest within by.behind)))

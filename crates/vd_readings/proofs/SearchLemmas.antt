@@ -1,6 +1,6 @@
 -- How a search goes on. No name has a dash, so that a caller can name each in `#[tactic(auto, using(..))]`.
-use Rattle.std.proofs.Common.{◌≡◌, ◌<◌, ◌≤◌, ◌+◌, ◌⊎◌, inl, inr, ℕ, List, [], ◌∷◌, ◌++◌, length, reverse, Option, Some, None, refl, sym, ap, subst, ◌∙◌, arith, append_assoc}
-use Rattle.std.specs.List.{Contains, flat_map, sum_by}
+use Rattle.std.proofs.Common.{◌≡◌, ◌<◌, ◌≤◌, ◌+◌, inl, inr, List, [], ◌∷◌, ◌++◌, length, reverse, Option, Some, None, refl, sym, ap, subst, ◌∙◌, arith, append_assoc}
+use Rattle.std.specs.List.{Contains, sum_by}
 use Rattle.std.specs.Map.{lookup}
 use Rattle.std.specs.Option.{IfSome}
 use Rattle.std.proofs.lemmas.List.{reverse-append}
@@ -12,9 +12,9 @@ use Rattle.vd_forms.specs.declared.form.Form.{Form}
 use Rattle.vd_resolved.specs.declared.node.Resolved.{Resolved}
 use Rattle.vd_states.specs.declared.states.State.{State}
 use Rattle.vd_states.specs.declared.ways.Way.{Way}
-use Rattle.vd_readings.specs.Readings.{Rules, readings}
+use Rattle.vd_readings.specs.Readings.{Rules}
 use Rattle.vd_readings.specs.Found.{IsFound, both}
-use Rattle.vd_readings.specs.Search.{given_by, cost, asked_readings, asked_cost, awaited, waiting_cost, step_cost, AreKnown, IsTrial, IsStage, IsWaiting, AreWaiting, IsStep}
+use Rattle.vd_readings.specs.Search.{given_by, cost, asked_readings, asked_cost, awaited, waiting_cost, AreKnown, IsTrial, IsStage, IsWaiting, AreWaiting, IsStep}
 use Rattle.vd_readings.specs.declared.found.Found.{Found}
 use Rattle.vd_readings.specs.declared.trials.Asked.{Asked}
 use Rattle.vd_readings.specs.declared.trials.Trial.{Trial}
@@ -49,8 +49,9 @@ module _ (rules : Rules) (fs : List (Forest Form)) where
       → AreKnown rules fs gs new
   known_kept gs old new asked found known kept is a f member =
       elim (put_others (eq-value).it same_asked asked found old a f (subst (λ es. Contains es (a, f)) kept member)) [
-          inl same ↦ subst (λ b. IsFound gs f (asked_readings rules fs b)) (sym same.0) (subst (λ g. IsFound gs g (asked_readings rules fs asked)) (sym same.1) is)
-        | inr older ↦ known a f older ]
+        | inl same ↦ subst (λ b. IsFound gs f (asked_readings rules fs b)) (sym same.0) (subst (λ g. IsFound gs g (asked_readings rules fs asked)) (sym same.1) is)
+        | inr older ↦ known a f older
+      ]
 
   pub known_grown : (gs hs : List (Forest Resolved)) (memo : List (Asked × Found)) → Extends gs hs → AreKnown rules fs gs memo → AreKnown rules fs hs memo
   known_grown gs hs memo grown known a f member = found_grown gs hs f (asked_readings rules fs a) grown (known a f member)
@@ -68,7 +69,7 @@ module _ (rules : Rules) (fs : List (Forest Form)) where
         before = waits.before ++ given_by rules (at fs w.trial.asked.number) w.way;
         found = subst (λ g. IsFound hs g (waits.before ++ given_by rules (at fs w.trial.asked.number) w.way)) (sym total)
             (found_both hs w.trial.found added waits.before (given_by rules (at fs w.trial.asked.number) w.way)
-              (found_grown gs hs w.trial.found waits.before grown waits.found) is);
+            (found_grown gs hs w.trial.found waits.before grown waits.found) is);
         left = waits.left ∙ sym (append_assoc waits.before (given_by rules (at fs w.trial.asked.number) w.way) _);
       })
 
@@ -123,7 +124,7 @@ module _ (rules : Rules) (fs : List (Forest Form)) where
         step = stepped;
         waiting = subst (λ us. AreWaiting rules fs hs us (asked_readings rules fs asked) want) (sym (ap reverse pushed ∙ turned_push ws w))
             (subst (λ ks. AreWaiting rules fs ks (w ∷ reverse ws) (asked_readings rules fs asked) want) (sym same)
-              (now.0, now.2, subst (λ here. AreWaiting rules fs gs (reverse ws) here want) (sym now.3) going.waiting));
+            (now.0, now.2, subst (λ here. AreWaiting rules fs gs (reverse ws) here want) (sym now.3) going.waiting));
       }
 
   -- the last of those that wait goes on

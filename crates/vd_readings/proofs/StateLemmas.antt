@@ -1,5 +1,5 @@
 -- The derived comparisons of states are equality.
-use Rattle.std.proofs.Common.{◌≡◌, Bool, true, false, refl, sym, ap, subst, ◌∙◌, true≢false, rules}
+use Rattle.std.proofs.Common.{◌≡◌, true, refl, sym, ap, ◌∙◌, true≢false, rules}
 use Rattle.std.proofs.lemmas.Bool.{and_parts}
 use Rattle.vd_states.specs.declared.states.Prefix.{Prefix}
 use Rattle.vd_states.specs.declared.states.Prefix.TheVariants.{Named, Valued, Ranged, Attributed}

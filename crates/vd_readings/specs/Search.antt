@@ -1,7 +1,6 @@
 -- How far a search for readings is: what is known, and the forests that wait for what stands inside and behind their first nodes.
 use Rattle.std.specs.Prelude.{◌≡◌, ◌<◌, ◌≤◌, ℕ, ◌+◌, List, [], ◌∷◌, ◌++◌, length, drop}
 use Rattle.std.specs.List.{Contains, flat_map, sum_by}
-use Rattle.vd_bytes.specs.declared.places.Place.{Place}
 use Rattle.vd_forest.specs.Forest.{Forest, nothing, more, parts_of, next_of}
 use Rattle.vd_forest.specs.Store.{at}
 use Rattle.vd_forms.specs.declared.form.Form.{Form}
@@ -55,13 +54,15 @@ module _ (rules : Rules) where
     -- what stands inside the node or behind it, whichever is waited for
     abbrev pub awaited : Waiting → List (Forest Resolved)
     awaited w = elim w.stage [
-        Inside ↦ readings rules (parts_of (at fs w.trial.asked.number)) w.way.inside
-      | After inner ↦ readings rules (next_of (at fs w.trial.asked.number)) w.way.after ]
+      | Inside ↦ readings rules (parts_of (at fs w.trial.asked.number)) w.way.inside
+      | After inner ↦ readings rules (next_of (at fs w.trial.asked.number)) w.way.after
+    ]
 
     abbrev pub waiting_cost : Waiting → ℕ
     waiting_cost w = elim w.stage [
-        Inside ↦ cost (next_of (at fs w.trial.asked.number)) w.way.after + 2 + trial_cost w.trial
-      | After inner ↦ 1 + trial_cost w.trial ]
+      | Inside ↦ cost (next_of (at fs w.trial.asked.number)) w.way.after + 2 + trial_cost w.trial
+      | After inner ↦ 1 + trial_cost w.trial
+    ]
 
     abbrev pub step_cost : Step → ℕ
     step_cost (Wait w asked) = asked_cost asked + waiting_cost w

@@ -178,12 +178,7 @@ impl<'a, L: Language> Search<'a, L> {
 
     /// Goes on with a forest that waited, where that was found.
     #[tactic(auto, using(crate::proofs::SearchLemmas::known_grown, crate::proofs::SearchLemmas::trial_more))]
-    fn resume(
-        &self,
-        known: &mut Known,
-        waiting: Waiting,
-        found: Found,
-    ) -> Result<Step, AllocError>
+    fn resume(&self, known: &mut Known, waiting: Waiting, found: Found) -> Result<Step, AllocError>
         requires known { AreKnown (L.rules self.now.language.now) self.now.store.now known.old.out known.old.memo.entries }
         requires waiting { IsWaiting (L.rules self.now.language.now) self.now.store.now known.old.out waiting }
         requires found { IsFound known.old.out found (awaited (L.rules self.now.language.now) self.now.store.now waiting) }

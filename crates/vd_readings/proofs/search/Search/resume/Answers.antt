@@ -1,4 +1,4 @@
-use Rattle.std.proofs.Common.{◌≡◌, sym, subst, refl}
+use Rattle.std.proofs.Common.{sym, subst, refl}
 use Rattle.vd_readings.specs.Search.{AreKnown}
 use Rattle.vd_readings.proofs.SearchLemmas.{known_grown, trial_more}
 use Rattle.vd_readings.proofs.search.Search.resume.Goals as goal
