@@ -14,7 +14,7 @@ pub enum Found {
 
 impl Found {
     /// What is found of two lists together.
-    pub(crate) fn and(self, other: Found) -> Found
+    pub fn and(self, other: Found) -> Found
         ensures { result ≡ both self other }
     {
         match self {
