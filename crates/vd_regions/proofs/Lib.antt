@@ -1,7 +1,9 @@
 pub mod HomographLemmas
 pub mod LinkLemmas
+pub mod ListLemmas
 pub mod MeaningLemmas
 pub mod MemberLemmas
+pub mod OrderLemmas
 pub mod PlaceLemmas
 pub mod ProfileLemmas
 pub mod SpaceLemmas

@@ -3,3 +3,5 @@ pub mod Homographs
 pub mod Visible
 pub mod Links
 pub mod Found
+pub mod InOrder
+pub mod Laws

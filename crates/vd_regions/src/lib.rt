@@ -3,6 +3,7 @@
 
 pub mod entries;
 mod finding;
+pub mod laws;
 pub mod regions;
 mod tables;
 

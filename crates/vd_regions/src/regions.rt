@@ -7,6 +7,7 @@ ghost use lib.ListN.{set as slice_set_at};
 ghost use Rattle.vd_regions.specs.Scopes.{Scopes, Region, Clause, region_at, declaration_at};
 ghost use Rattle.vd_regions.specs.Homographs.{homograph};
 ghost use Rattle.vd_regions.specs.Visible.{IsVisible, IsSelected, IsMeant};
+ghost use Rattle.vd_regions.specs.InOrder.{visible_in, selected_in_order};
 
 use crate::entries::{Entered, Key, Link, Space, UseClause, UseClauses};
 use crate::finding::put_in_order;
@@ -262,6 +263,7 @@ impl Regions {
     ) -> Result<Vec<DeclId>, AllocError>
         ensures in_order { IfOk result (λ found. IsStrictlyIncreasing found.items) }
         ensures all { IfOk result (λ found. (k : ℕ) → Contains found.items k ↔ IsMeant self.now (IsVisible self.now region name.now) k) }
+        ensures is { IfOk result (λ found. found.items ≡ visible_in self.now region name.now) }
     {
         let regions = self.chain(alloc, region.number())?;
         let mut key = key_of(alloc, 0, name.as_bytes())?;
@@ -288,6 +290,7 @@ impl Regions {
     ) -> Result<Vec<DeclId>, AllocError>
         ensures in_order { IfOk result (λ found. IsStrictlyIncreasing found.items) }
         ensures all { IfOk result (λ found. (k : ℕ) → Contains found.items k ↔ IsMeant self.now (IsSelected self.now place prefix name.now) k) }
+        ensures is { IfOk result (λ found. found.items ≡ selected_in_order self.now place prefix name.now) }
     {
         let mut found = Vec::new(alloc);
         self.add_selected(

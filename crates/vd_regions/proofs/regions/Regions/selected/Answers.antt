@@ -2,7 +2,10 @@ use Rattle.std.proofs.Common.{◌≡◌, ◌++◌, sym, ap, subst, ◌∙◌}
 use Rattle.std.specs.List.{Contains}
 use Rattle.vd_regions.specs.Found.{selected_from}
 use Rattle.vd_regions.specs.Visible.{IsSelected, IsMeant}
+use Rattle.vd_regions.specs.InOrder.{selected_in_order}
+use Rattle.vd_regions.proofs.ListLemmas.{lists_what_is_selected, lists_selected_in_order}
 use Rattle.vd_regions.proofs.MeaningLemmas.{meant_of}
+use Rattle.vd_regions.proofs.OrderLemmas.{same_in_order}
 use Rattle.vd_regions.proofs.VisibleLemmas.{from_selected, in_selected}
 use Rattle.vd_regions.proofs.regions.Regions.selected.Goals as goal
 
@@ -23,3 +26,13 @@ returns-clause-all c = λ k.
           (meant_of s (IsSelected s c.args.place c.args.prefix c.args.name.now) (Contains c.add_selected.new.found.items)
           (λ j seen_j. subst (λ xs. Contains xs j) (sym found) (in_selected s c.args.place c.args.prefix c.args.name.now j seen_j)) k is)),
     )
+
+pub returns-clause-is : goal.returns-clause-is
+returns-clause-is c =
+    let s = c.args.self.now in
+    let place = c.args.place in
+    let prefix = c.args.prefix in
+    let name = c.args.name.now in
+    same_in_order c.in_ok-ids.ids.items (selected_in_order s place prefix name) c.in_ok-ids.ensures.in_order (lists_selected_in_order s place prefix name)
+    (λ k m. (lists_what_is_selected s place prefix name k).1 ((returns-clause-all c k).0 m))
+    (λ k m. (returns-clause-all c k).1 ((lists_what_is_selected s place prefix name k).0 m))

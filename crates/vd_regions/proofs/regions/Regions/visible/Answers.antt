@@ -3,7 +3,10 @@ use Rattle.std.specs.List.{Contains}
 use Rattle.vd_regions.specs.Scopes.{chain}
 use Rattle.vd_regions.specs.Found.{round, direct_from, given, by_use_among}
 use Rattle.vd_regions.specs.Visible.{IsGiven, IsVisible, IsMeant}
+use Rattle.vd_regions.specs.InOrder.{visible_in}
+use Rattle.vd_regions.proofs.ListLemmas.{lists_what_is_visible, lists_visible_in_order}
 use Rattle.vd_regions.proofs.MeaningLemmas.{meant_of}
+use Rattle.vd_regions.proofs.OrderLemmas.{same_in_order}
 use Rattle.vd_regions.proofs.VisibleLemmas.{from_visible, in_visible, from_given, in_given}
 use Rattle.vd_regions.proofs.regions.Regions.visible.Goals as goal
 
@@ -46,3 +49,12 @@ returns-clause-all c = λ k.
           (meant_of s (IsVisible s region name) (Contains c.add_by_use.new.found.items)
           (λ j seen_j. subst (λ xs. Contains xs j) (sym found) (in_visible s name region ks has all j seen_j)) k is)),
     )
+
+pub returns-clause-is : goal.returns-clause-is
+returns-clause-is c =
+    let s = c.args.self.now in
+    let region = c.args.region in
+    let name = c.args.name.now in
+    same_in_order c.in_ok-ids.ids.items (visible_in s region name) c.in_ok-ids.ensures.in_order (lists_visible_in_order s region name)
+    (λ k m. (lists_what_is_visible s region name k).1 ((returns-clause-all c k).0 m))
+    (λ k m. (returns-clause-all c k).1 ((lists_what_is_visible s region name k).0 m))

@@ -1,0 +1,8 @@
+use Rattle.vd_regions.proofs.ListLemmas.{lists_what_is_selected, lists_selected_in_order}
+use Rattle.vd_regions.proofs.laws.selected_is_listed.Goals as goal
+
+pub returns-clause-all : goal.returns-clause-all
+returns-clause-all c = lists_what_is_selected
+
+pub returns-clause-in_order : goal.returns-clause-in_order
+returns-clause-in_order c = lists_selected_in_order
