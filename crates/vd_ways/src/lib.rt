@@ -1,0 +1,10 @@
+//! The ways of every form of an expression.
+#![tactic(auto)]
+
+pub mod attributes;
+pub mod kinds;
+pub mod roles;
+
+pub use attributes::Attribute;
+pub use kinds::Kind;
+pub use roles::Role;
