@@ -1,7 +1,6 @@
 -- What the forms of trees are in expressions, what declarations are in names, and what attributes there are: tables to be held beside
 -- the standard. (IEEE 1076, names; expressions; predefined attributes)
-use Rattle.std.specs.Prelude.{ℕ, List, [], ◌∷◌, codes, if◌then◌else◌}
-use Rattle.std.specs.List.{list_any}
+use Rattle.std.specs.Prelude.{ℕ, Bool, ◌||◌, List, [], ◌∷◌, codes, if◌then◌else◌}
 use Rattle.std.specs.Str.{bytes_eq}
 use Rattle.vd_declarations.specs.declared.classes.Class.{Class}
 use Rattle.vd_declarations.specs.declared.classes.Class.TheVariants as class
@@ -132,17 +131,21 @@ kind_of _ = kind.Other
 
 -- ---- attributes, by their names. The attribute `range` has a form of its own
 
+abbrev pub is_either : List ℕ → (first second : List ℕ) → Bool
+is_either name first second = bytes_eq name first || bytes_eq name second
+
 abbrev pub attribute_named : List ℕ → Attribute
 attribute_named name =
-    if list_any (bytes_eq name) (codes "left" ∷ codes "right" ∷ codes "high" ∷ codes "low" ∷ []) then attribute.Bound
+    if is_either name (codes "left") (codes "right") then attribute.Bound
+    else (if is_either name (codes "high") (codes "low") then attribute.Bound
     else (if bytes_eq name (codes "length") then attribute.Length
     else (if bytes_eq name (codes "pos") then attribute.Position
     else (if bytes_eq name (codes "val") then attribute.ValueAt
-    else (if list_any (bytes_eq name) (codes "succ" ∷ codes "pred" ∷ []) then attribute.Neighbour
+    else (if is_either name (codes "succ") (codes "pred") then attribute.Neighbour
     else (if bytes_eq name (codes "image") then attribute.Image
     else (if bytes_eq name (codes "event") then attribute.Event
     else (if bytes_eq name (codes "reverse_range") then attribute.ReverseRange
-    else attribute.Other)))))))
+    else attribute.Other))))))))
 
 -- ---- what a declaration can be in a name. A unit of TIME stands in physical literals alone, and an element of a record behind a value
 

@@ -1,5 +1,6 @@
 -- What is known at a place of a design. (IEEE 1076, visibility; the design's declarations so far)
-use Rattle.std.specs.Prelude.{ℕ, List, length, Option}
+use Rattle.std.specs.Prelude.{ℕ, List, [], length, Option, if◌then◌else◌}
+use Rattle.std.specs.Str.{is_utf8}
 use Rattle.vd_trees.specs.declared.revision.Revision.{Revision}
 use Rattle.vd_declarations.specs.declared.classes.Class.{Class}
 use Rattle.vd_declarations.specs.declared.declarations.Declaration.{Declaration}
@@ -15,14 +16,20 @@ pub record Sight : Type 0 where
   pub visible : (name : List ℕ) → List ℕ
   pub selected : (prefix : ℕ) → (name : List ℕ) → List ℕ
 
--- that of a place in a region
-abbrev pub sight_in : Revision → Scopes → (region : ℕ) → Sight
-sight_in r s region = record {
-  revision = r;
-  count = length s.entered;
-  declaration = declaration_at s;
-  visible = visible_in s region;
-  selected = selected_in_order s region;
+-- a place: the revision, the regions and declarations so far, and the region of the place
+pub record Standpoint : Type 0 where
+  pub revision : Revision
+  pub scopes : Scopes
+  pub region : ℕ
+
+-- what is known there. Bytes that are no text name nothing
+abbrev pub sight_from : Standpoint → Sight
+sight_from p = record {
+  revision = p.revision;
+  count = length p.scopes.entered;
+  declaration = declaration_at p.scopes;
+  visible = λ name. if is_utf8 name then visible_in p.scopes p.region name else [];
+  selected = λ prefix name. if is_utf8 name then selected_in_order p.scopes p.region prefix name else [];
 }
 
 abbrev pub class_of : Sight → ℕ → Class

@@ -60,8 +60,9 @@ where_true b way = if b then way ∷ [] else []
 abbrev pub letter_way : Sight → ℕ → State → ℕ → List Way
 letter_way s t after k =
     elim (class_of s k) [
-      class.EnumerationLiteral ↦ where_true (is_some_type t (mark_of s k)) (placed k (Some t) (position_in t k) state.Done after)
-    | _ ↦ [] ]
+      | class.EnumerationLiteral ↦ where_true (is_some_type t (mark_of s k)) (placed k (Some t) (position_in t k) state.Done after)
+      | _ ↦ []
+    ]
 
 -- a literal in quotation marks is of each array type whose elements are of an enumeration type with all its characters
 abbrev pub spells : Sight → Option ℕ → List ℕ → Bool
@@ -76,8 +77,9 @@ text_ways s t after text = where_true (spells s (element_of (class_of s t)) text
 abbrev pub operator_way : Sight → ℕ → State → ℕ → List Way
 operator_way s t after k =
     elim (role_of (class_of s k)) [
-      role.Function ↦ where_true (is_some_type t (mark_of s k)) (chosen k t (state.Arguments k 0) after)
-    | _ ↦ [] ]
+      | role.Function ↦ where_true (is_some_type t (mark_of s k)) (chosen k t (state.Arguments k 0) after)
+      | _ ↦ []
+    ]
 
 abbrev pub value_ways : Kind → Sight → ℕ → State → Form → List ℕ → Forest Form → List Way
 value_ways kind.Number s t after form text parts = where_true (t == INTEGER) (typed t state.Done after)
