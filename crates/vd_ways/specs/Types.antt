@@ -68,10 +68,11 @@ is_literal_of s t k = elim (class_of s k) [ class.EnumerationLiteral ↦ is_some
 -- those of the next n declarations from k on, up to the first that is none
 abbrev pub literals_from : Sight → ℕ → ℕ → ℕ → List ℕ
 literals_from s t zero k = []
-literals_from s t (suc n) k = if is_literal_of s t k then k ∷ literals_from s t n (k + 1) else []
+literals_from s t (suc n) k = elim (is_literal_of s t k) [ true ↦ k ∷ literals_from s t n (k + 1) | false ↦ [] ]
 
+-- a declaration's number has 32 bits
 abbrev pub literals_of : Sight → ℕ → List ℕ
-literals_of s t = literals_from s t (s.count - (t + 1)) (t + 1)
+literals_of s t = literals_from s t (4294967296 - (t + 1)) (t + 1)
 
 -- the position of a literal of this type
 abbrev pub position_in : ℕ → ℕ → ℕ
@@ -81,9 +82,12 @@ position_in t k = k - (t + 1)
 abbrev pub letter_name : List ℕ → List ℕ
 letter_name text = 39 ∷ (text ++ 39 ∷ [])
 
+abbrev pub is_character : Sight → ℕ → ℕ → Bool
+is_character s character k = bytes_eq (name_of s k) (letter_name (character ∷ []))
+
 -- the type has this character among its literals
 abbrev pub has_character : Sight → ℕ → ℕ → Bool
-has_character s t character = list_any (λ k. bytes_eq (name_of s k) (letter_name (character ∷ []))) (literals_of s t)
+has_character s t character = list_any (is_character s character) (literals_of s t)
 
 -- ---- conversions of array types
 

@@ -2,9 +2,12 @@
 #![tactic(auto)]
 
 pub mod attributes;
+mod characters;
+mod lists;
 pub mod kinds;
 pub mod roles;
 pub mod surroundings;
+pub mod types;
 
 pub use attributes::Attribute;
 pub use kinds::Kind;
