@@ -56,10 +56,14 @@ positional (more form text place parts next) = if is_among expressions form then
 
 -- ---- calls: expressions for the first parameters, and then an association for each other one
 
--- of each tree the one name in its choices, where it is an association with one
+-- the one name in the choices of an association
+abbrev pub formal_of : Form → Forest Form → Option (List ℕ)
+formal_of form parts = elim (kind_of form) [ kind.Association ↦ only_one (names_in parts) | _ ↦ None ]
+
+-- of each tree, where it is an association with one choice
 abbrev pub formals : Forest Form → List (Option (List ℕ))
 formals nothing = []
-formals (more form text place parts next) = elim (kind_of form) [ kind.Association ↦ only_one (names_in parts) | _ ↦ None ] ∷ formals next
+formals (more form text place parts next) = formal_of form parts ∷ formals next
 
 abbrev pub are_given : Sight → List ℕ → List (Option (List ℕ)) → Bool
 are_given s parameters names = list_all (λ k. list_any (is_name (name_of s k)) names) parameters
@@ -88,9 +92,13 @@ abbrev pub chosen_names : Forest Form → List (Option (List ℕ))
 chosen_names nothing = []
 chosen_names (more form text place parts next) = elim (kind_of form) [ kind.Association ↦ names_in parts | _ ↦ [] ] ++ chosen_names next
 
+-- an element that stands in no choice
+abbrev pub is_left : Sight → Forest Form → ℕ → Bool
+is_left s parts k = not (list_any (is_name (name_of s k)) (chosen_names parts))
+
 -- the elements of a record type that stand behind the positional ones, and in no choice
 abbrev pub left_elements : Sight → ℕ → Forest Form → List ℕ
-left_elements s t parts = filter (λ k. not (list_any (is_name (name_of s k)) (chosen_names parts))) (drop (positional parts) (parameters_of s t))
+left_elements s t parts = filter (is_left s parts) (drop (positional parts) (parameters_of s t))
 
 -- the type of what `others` stands for
 abbrev pub others_type : Sight → ℕ → Forest Form → Option ℕ
@@ -114,9 +122,13 @@ in_brackets s t parts = if is_one_expression parts then Some (state.Only (want.V
 
 -- ---- choices of record aggregates
 
+abbrev pub is_element : Class → Bool
+is_element class.RecordElement = true
+is_element _ = false
+
 -- the elements of a record type that a name selects
 abbrev pub elements_named : Sight → ℕ → List ℕ → List ℕ
-elements_named s t name = filter (λ k. elim (class_of s k) [ class.RecordElement ↦ true | _ ↦ false ]) (s.selected t name)
+elements_named s t name = filter (λ k. is_element (class_of s k)) (s.selected t name)
 
 abbrev pub first_mark : Sight → List ℕ → Option ℕ
 first_mark s [] = None

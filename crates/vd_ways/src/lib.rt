@@ -2,6 +2,7 @@
 #![tactic(auto)]
 
 pub mod attributes;
+mod calls;
 mod characters;
 mod lists;
 pub mod kinds;

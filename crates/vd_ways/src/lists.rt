@@ -81,7 +81,7 @@ pub fn positional(trees: &Cursor<'_, Form>) -> Result<u32, AllocError>
 }
 
 /// How many trees there are.
-fn tree_count(trees: &Cursor<'_, Form>) -> Result<usize, AllocError>
+pub fn tree_count(trees: &Cursor<'_, Form>) -> Result<usize, AllocError>
     ensures { IfOk result (λ count. count ≡ length (forms_of trees.now)) }
 {
     let mut count = 0usize;
@@ -170,7 +170,7 @@ pub fn has_others(trees: &Cursor<'_, Form>) -> bool
 }
 
 /// Whether an identifier is one of the choices that are identifiers.
-fn is_chosen_among(name: &[u8], choices: &Cursor<'_, Form>) -> bool
+pub fn is_chosen_among(name: &[u8], choices: &Cursor<'_, Form>) -> bool
     ensures { result ≡ list_any (is_name name.now) (choice_names choices.now) }
 {
     let mut rest = choices.fork();
