@@ -3,7 +3,7 @@
 -- parts have, and which state what stands behind it has. A way looks at a node's form and text and at the forms and texts of its parts,
 -- and never at what these turn out to be.
 use Rattle.std.specs.Prelude.{ℕ, suc, ◌==◌, Bool, true, false, ◌&&◌, List, [], ◌∷◌, ◌++◌, length, map, position, Option, Some, None, codes, slice_get, if◌then◌else◌}
-use Rattle.std.specs.List.{filter, flat_map, list_all}
+use Rattle.std.specs.List.{filter, filter_map, flat_map, list_all}
 use Rattle.std.specs.Option.{option_to_list, unwrap_or}
 use Rattle.std.specs.Str.{bytes_eq, str_to_ascii_lowercase}
 use Rattle.vd_declarations.specs.declared.classes.Class.{Class}
@@ -51,18 +51,20 @@ chosen k t inside after = record { declaration = Some k; mark = Some t; position
 abbrev pub placed : ℕ → Option ℕ → ℕ → State → State → Way
 placed k t position inside after = record { declaration = Some k; mark = t; position = position; inside = inside; after = after }
 
+abbrev pub if_true : Bool → Way → Option Way
+if_true b way = if b then Some way else None
+
 abbrev pub where_true : Bool → Way → List Way
 where_true b way = if b then way ∷ [] else []
 
 -- ---- a node that is wanted as a value of a type
 
 -- a character literal means each visible literal of the type
-abbrev pub letter_way : Sight → ℕ → State → ℕ → List Way
+abbrev pub letter_way : Sight → ℕ → State → ℕ → Option Way
 letter_way s t after k =
     elim (class_of s k) [
-      | class.EnumerationLiteral ↦ where_true (is_some_type t (mark_of s k)) (placed k (Some t) (position_in t k) state.Done after)
-      | _ ↦ []
-    ]
+      class.EnumerationLiteral ↦ if_true (is_some_type t (mark_of s k)) (placed k (Some t) (position_in t k) state.Done after)
+    | _ ↦ None ]
 
 -- a literal in quotation marks is of each array type whose elements are of an enumeration type with all its characters
 abbrev pub spells : Sight → Option ℕ → List ℕ → Bool
@@ -74,23 +76,22 @@ abbrev pub text_ways : Sight → ℕ → State → List ℕ → List Way
 text_ways s t after text = where_true (spells s (element_of (class_of s t)) text) (typed t state.Done after)
 
 -- an operator is each visible function of its symbol with this result, whose parameters its operands are for
-abbrev pub operator_way : Sight → ℕ → State → ℕ → List Way
+abbrev pub operator_way : Sight → ℕ → State → ℕ → Option Way
 operator_way s t after k =
     elim (role_of (class_of s k)) [
-      | role.Function ↦ where_true (is_some_type t (mark_of s k)) (chosen k t (state.Arguments k 0) after)
-      | _ ↦ []
-    ]
+      role.Function ↦ if_true (is_some_type t (mark_of s k)) (chosen k t (state.Arguments k 0) after)
+    | _ ↦ None ]
 
 abbrev pub value_ways : Kind → Sight → ℕ → State → Form → List ℕ → Forest Form → List Way
 value_ways kind.Number s t after form text parts = where_true (t == INTEGER) (typed t state.Done after)
 value_ways kind.PhysicalLiteral s t after form text parts = where_true (t == TIME) (typed t state.PhysicalValue after)
-value_ways kind.Letter s t after form text parts = flat_map (letter_way s t after) (s.visible (letter_name text))
+value_ways kind.Letter s t after form text parts = filter_map (letter_way s t after) (s.visible (letter_name text))
 value_ways kind.Quoted s t after form text parts = text_ways s t after text
 value_ways kind.Bits s t after form text parts = text_ways s t after text
 value_ways kind.Aggregate s t after form text parts = map (λ inside. typed t inside after) (option_to_list (in_brackets s t parts))
 value_ways kind.Name s t after form text parts = typed t (state.Head (want.Value t)) after ∷ []
 value_ways kind.OperatorName s t after form text parts = typed t (state.Head (want.Value t)) after ∷ []
-value_ways kind.Operator s t after form text parts = flat_map (operator_way s t after) (s.visible (symbol_of form))
+value_ways kind.Operator s t after form text parts = filter_map (operator_way s t after) (s.visible (symbol_of form))
 value_ways _ s t after form text parts = []
 
 -- ---- a node that is wanted as a range, a choice or a mark

@@ -5,10 +5,12 @@ pub mod attributes;
 mod calls;
 mod characters;
 mod lists;
+mod making;
 pub mod kinds;
 pub mod roles;
 pub mod surroundings;
 pub mod types;
+mod values;
 
 pub use attributes::Attribute;
 pub use kinds::Kind;
