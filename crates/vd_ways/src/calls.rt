@@ -5,8 +5,10 @@ ghost use Rattle.std.specs.List.{filter, list_all, list_any};
 ghost use Rattle.std.specs.Option.{option_copied};
 ghost use Rattle.vd_ways.specs.Sights.{sight_from, class_of, mark_of, name_of, parameters_of};
 ghost use Rattle.vd_ways.specs.Types.{is_some_type, common_type as common};
+ghost use Rattle.vd_ways.specs.Brackets.{state_of};
 ghost use Rattle.vd_ways.specs.Lists.{names_in, choice_names, is_name, formal_of, formals, is_element, are_given, fits_call, chosen_names, is_left, left_elements, others_type, fields, aggregate_of, in_brackets, elements_named, first_mark, chosen_mark, choices_type};
 
+use crate::brackets::Brackets;
 use crate::lists::{
     choices_of, has_others, is_association, is_chosen_among, is_one_expression, is_unmixed,
     only_choice, positional, simple_name, tree_count,
@@ -17,7 +19,6 @@ use std::alloc::{AllocError, Global};
 use vd_declarations::{Class, DeclId, TypeId};
 use vd_forest::Cursor;
 use vd_forms::Form;
-use vd_states::{State, Want};
 
 /// Those behind the first ones.
 fn behind<'a>(ids: &'a [DeclId], count: u32) -> &'a [DeclId]
@@ -156,56 +157,50 @@ impl<'a> Surroundings<'a> {
         Ok(marks)
     }
 
-    /// The state of the elements of a record aggregate.
+    /// The elements of a record aggregate.
     fn fields(
         &self,
         alloc: Global,
         mark: TypeId,
         elements: &Cursor<'_, Form>,
-    ) -> Result<Option<State>, AllocError>
-        ensures { IfOk result (λ state. state ≡ fields (sight_from self.now) mark elements.now) }
+    ) -> Result<Brackets, AllocError>
+        ensures { IfOk result (λ brackets. state_of mark brackets ≡ fields (sight_from self.now) mark elements.now) }
     {
         if !has_others(elements) {
-            return Ok(Some(State::Fields {
-                mark,
-                index: Some(0),
-                others: None,
-            }));
+            return Ok(Brackets::Fields { others: None });
         }
         let left = self.left_elements(alloc, mark, elements)?;
         let marks = self.marks_of(alloc, &left)?;
         match common_type(&marks) {
-            None => Ok(None),
-            Some(others) => Ok(Some(State::Fields {
-                mark,
-                index: Some(0),
+            None => Ok(Brackets::Nothing),
+            Some(others) => Ok(Brackets::Fields {
                 others: Some(others),
-            })),
+            }),
         }
     }
 
-    /// The state of what stands in the brackets of an aggregate or of a qualified expression of a type.
+    /// What stands in the brackets of an aggregate or of a qualified expression of a type.
     pub fn in_brackets(
         &self,
         alloc: Global,
         mark: TypeId,
         elements: &Cursor<'_, Form>,
-    ) -> Result<Option<State>, AllocError>
-        ensures { IfOk result (λ state. state ≡ in_brackets (sight_from self.now) mark elements.now) }
+    ) -> Result<Brackets, AllocError>
+        ensures { IfOk result (λ brackets. state_of mark brackets ≡ in_brackets (sight_from self.now) mark elements.now) }
     {
         if is_one_expression(elements) {
-            return Ok(Some(State::Only(Want::Value(mark))));
+            return Ok(Brackets::Expression);
         }
         match self.class_of_type(mark) {
             Class::ArrayType { .. } => {
                 if is_unmixed(elements) {
-                    Ok(Some(State::Elements { array: mark }))
+                    Ok(Brackets::Elements)
                 } else {
-                    Ok(None)
+                    Ok(Brackets::Nothing)
                 }
             }
             Class::RecordType => self.fields(alloc, mark, elements),
-            _ => Ok(None),
+            _ => Ok(Brackets::Nothing),
         }
     }
 

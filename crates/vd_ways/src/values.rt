@@ -153,8 +153,9 @@ impl<'a> Surroundings<'a> {
     ) -> Result<Vec<Way>, AllocError>
         ensures { IfOk result (λ ways. ways.items ≡ value_ways Aggregate (sight_from self.now) mark after.now node.now.form node.now.text.now node.now.parts) }
     {
-        let brackets = self.in_brackets(alloc, mark, &node.parts)?;
-        match &brackets {
+        let elements = self.in_brackets(alloc, mark, &node.parts)?;
+        let inside = elements.state(mark);
+        match &inside {
             None => Ok(Vec::new(alloc)),
             Some(inside) => one(alloc, &typed(mark, inside, after)),
         }
