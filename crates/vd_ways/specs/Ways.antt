@@ -2,8 +2,8 @@
 -- A state says what is wanted of the trees that stand side by side from a place on. A way says what the first of them gets, which state its
 -- parts have, and which state what stands behind it has. A way looks at a node's form and text and at the forms and texts of its parts,
 -- and never at what these turn out to be.
-use Rattle.std.specs.Prelude.{ℕ, suc, ◌==◌, Bool, true, false, ◌&&◌, List, [], ◌∷◌, ◌++◌, length, map, position, Option, Some, None, codes, slice_get, if◌then◌else◌}
-use Rattle.std.specs.List.{filter, filter_map, flat_map, list_all}
+use Rattle.std.specs.Prelude.{ℕ, ◌+◌, ◌==◌, Bool, true, false, ◌&&◌, List, [], ◌∷◌, ◌++◌, length, map, position, Option, Some, None, codes, slice_get, if◌then◌else◌}
+use Rattle.std.specs.List.{filter, filter_map, list_all}
 use Rattle.std.specs.Option.{option_to_list, unwrap_or}
 use Rattle.std.specs.Str.{bytes_eq, str_to_ascii_lowercase}
 use Rattle.vd_declarations.specs.declared.classes.Class.{Class}
@@ -136,11 +136,11 @@ number_ways kind.Number = typed INTEGER state.Done state.PhysicalUnit ∷ []
 number_ways _ = []
 
 -- a unit has to be visible
-abbrev pub unit_way : Sight → ℕ → List Way
-unit_way s k = elim (class_of s k) [ class.PhysicalUnit ↦ naming k state.Done state.Done ∷ [] | _ ↦ [] ]
+abbrev pub unit_way : Sight → ℕ → Option Way
+unit_way s k = elim (class_of s k) [ class.PhysicalUnit ↦ Some (naming k state.Done state.Done) | _ ↦ None ]
 
 abbrev pub unit_ways : Kind → Sight → List ℕ → List Way
-unit_ways kind.Identifier s text = flat_map (unit_way s) (s.visible text)
+unit_ways kind.Identifier s text = filter_map (unit_way s) (s.visible text)
 unit_ways _ s text = []
 
 -- ---- operands, and arguments of calls
@@ -151,7 +151,7 @@ parameters_named s f None = []
 parameters_named s f (Some name) = filter (λ k. bytes_eq (name_of s k) name) (parameters_of s f)
 
 abbrev pub association_way : ℕ → ℕ → ℕ → Way
-association_way f index k = plain (state.Association k) (state.Arguments f (suc index))
+association_way f index k = plain (state.Association k) (state.Arguments f (index + 1))
 
 abbrev pub mark_of_some : Sight → Option ℕ → Option ℕ
 mark_of_some s None = None
@@ -168,7 +168,7 @@ value_ways_in (Some t) k s after form text parts = value_ways k s t after form t
 -- by position, or by the name of a parameter
 abbrev pub argument_ways : Kind → Sight → ℕ → ℕ → Form → List ℕ → Forest Form → List Way
 argument_ways kind.Association s f index form text parts = map (association_way f index) (parameters_named s f (only_one (names_in parts)))
-argument_ways k s f index form text parts = value_ways_in (mark_at s (parameters_of s f) index) k s (state.Arguments f (suc index)) form text parts
+argument_ways k s f index form text parts = value_ways_in (mark_at s (parameters_of s f) index) k s (state.Arguments f (index + 1)) form text parts
 
 -- in an association of a call: the name of the parameter, and a value of its type
 abbrev pub association_ways : Kind → Sight → ℕ → List Way
@@ -205,7 +205,7 @@ element_association_ways _ s array = []
 abbrev pub positional_ways : Option ℕ → Kind → Sight → ℕ → Option ℕ → Form → List ℕ → Forest Form → List Way
 positional_ways None k s t others form text parts = []
 positional_ways (Some index) k s t others form text parts =
-    value_ways_in (mark_at s (parameters_of s t) index) k s (state.Fields t (Some (suc index)) others) form text parts
+    value_ways_in (mark_at s (parameters_of s t) index) k s (state.Fields t (Some (index + 1)) others) form text parts
 
 abbrev pub field_ways : Kind → Sight → ℕ → Option ℕ → Option ℕ → Form → List ℕ → Forest Form → List Way
 field_ways kind.Association s t index others form text parts =
@@ -240,38 +240,38 @@ abbrev pub symbol_name : List ℕ → List ℕ
 symbol_name text = 34 ∷ (str_to_ascii_lowercase text ++ 34 ∷ [])
 
 -- what has a value
-abbrev pub valued_ways : Option ℕ → ℕ → Bool → Want → State → List Way
-valued_ways None k signal goal inside = []
-valued_ways (Some t) k signal goal inside = chosen k t inside (state.Suffixes (prefix.Valued t signal) goal) ∷ []
+abbrev pub valued_way : Option ℕ → ℕ → Bool → Want → State → Option Way
+valued_way None k signal goal inside = None
+valued_way (Some t) k signal goal inside = Some (chosen k t inside (state.Suffixes (prefix.Valued t signal) goal))
 
-abbrev pub literal_ways : Option ℕ → ℕ → Want → State → List Way
-literal_ways None k goal inside = []
-literal_ways (Some t) k goal inside = placed k (Some t) (position_in t k) inside (state.Suffixes (prefix.Valued t false) goal) ∷ []
+abbrev pub literal_way : Option ℕ → ℕ → Want → State → Option Way
+literal_way None k goal inside = None
+literal_way (Some t) k goal inside = Some (placed k (Some t) (position_in t k) inside (state.Suffixes (prefix.Valued t false) goal))
 
 -- what has none
 abbrev pub named_way : ℕ → Want → State → Way
 named_way k goal inside = naming k inside (state.Suffixes (prefix.Named k) goal)
 
 -- a function without parameters is called, and any other by the suffix that follows
-abbrev pub function_ways : Sight → List ℕ → ℕ → Want → State → List Way
-function_ways s [] k goal inside = valued_ways (mark_of s k) k false goal inside
-function_ways s (parameter ∷ parameters) k goal inside = named_way k goal inside ∷ []
+abbrev pub function_way : Sight → List ℕ → ℕ → Want → State → Option Way
+function_way s [] k goal inside = valued_way (mark_of s k) k false goal inside
+function_way s (parameter ∷ parameters) k goal inside = Some (named_way k goal inside)
 
-abbrev pub role_ways : Role → Sight → ℕ → Want → State → List Way
-role_ways role.Unit s k goal inside = named_way k goal inside ∷ []
-role_ways role.Mark s k goal inside = named_way k goal inside ∷ []
-role_ways role.Object s k goal inside = valued_ways (mark_of s k) k false goal inside
-role_ways role.Signal s k goal inside = valued_ways (mark_of s k) k true goal inside
-role_ways role.Literal s k goal inside = literal_ways (mark_of s k) k goal inside
-role_ways role.Function s k goal inside = function_ways s (parameters_of s k) k goal inside
-role_ways role.Other s k goal inside = []
+abbrev pub role_way : Role → Sight → ℕ → Want → State → Option Way
+role_way role.Unit s k goal inside = Some (named_way k goal inside)
+role_way role.Mark s k goal inside = Some (named_way k goal inside)
+role_way role.Object s k goal inside = valued_way (mark_of s k) k false goal inside
+role_way role.Signal s k goal inside = valued_way (mark_of s k) k true goal inside
+role_way role.Literal s k goal inside = literal_way (mark_of s k) k goal inside
+role_way role.Function s k goal inside = function_way s (parameters_of s k) k goal inside
+role_way role.Other s k goal inside = None
 
-abbrev pub declaration_ways : Sight → Want → State → ℕ → List Way
-declaration_ways s goal inside k = role_ways (role_of (class_of s k)) s k goal inside
+abbrev pub declaration_way : Sight → Want → State → ℕ → Option Way
+declaration_way s goal inside k = role_way (role_of (class_of s k)) s k goal inside
 
 abbrev pub head_ways : Kind → Sight → Want → List ℕ → List Way
-head_ways kind.Identifier s goal text = flat_map (declaration_ways s goal state.Done) (s.visible text)
-head_ways kind.Quoted s goal text = flat_map (declaration_ways s goal state.Done) (s.visible (symbol_name text))
+head_ways kind.Identifier s goal text = filter_map (declaration_way s goal state.Done) (s.visible text)
+head_ways kind.Quoted s goal text = filter_map (declaration_way s goal state.Done) (s.visible (symbol_name text))
 head_ways _ s goal text = []
 
 -- ---- the suffixes of a name
@@ -291,21 +291,21 @@ selection_name nothing = None
 selection_name (more form text place parts next) = selected_name (kind_of form) text
 
 abbrev pub unit_selection_ways : Role → Sight → ℕ → Want → List ℕ → List Way
-unit_selection_ways role.Unit s k goal name = flat_map (declaration_ways s goal state.Leaf) (s.selected k name)
+unit_selection_ways role.Unit s k goal name = filter_map (declaration_way s goal state.Leaf) (s.selected k name)
 unit_selection_ways _ s k goal name = []
 
-abbrev pub field_way_of : Option ℕ → Sight → ℕ → Bool → Want → ℕ → List Way
-field_way_of None s t signal goal k = []
-field_way_of (Some u) s t signal goal k = placed k (Some u) (position_of s t k) state.Leaf (state.Suffixes (prefix.Valued u signal) goal) ∷ []
+abbrev pub field_way_of : Option ℕ → Sight → ℕ → Bool → Want → ℕ → Option Way
+field_way_of None s t signal goal k = None
+field_way_of (Some u) s t signal goal k = Some (placed k (Some u) (position_of s t k) state.Leaf (state.Suffixes (prefix.Valued u signal) goal))
 
 -- an element of a record value. An element of a signal is one
-abbrev pub field_way : Sight → ℕ → Bool → Want → ℕ → List Way
+abbrev pub field_way : Sight → ℕ → Bool → Want → ℕ → Option Way
 field_way s t signal goal k = field_way_of (mark_of s k) s t signal goal k
 
 abbrev pub selection_ways : Prefix → Sight → Want → Option (List ℕ) → List Way
 selection_ways p s goal None = []
 selection_ways (prefix.Named k) s goal (Some name) = unit_selection_ways (role_of (class_of s k)) s k goal name
-selection_ways (prefix.Valued t signal) s goal (Some name) = flat_map (field_way s t signal goal) (elements_named s t name)
+selection_ways (prefix.Valued t signal) s goal (Some name) = filter_map (field_way s t signal goal) (elements_named s t name)
 selection_ways (prefix.Ranged t) s goal (Some name) = []
 selection_ways (prefix.Attributed argument result) s goal (Some name) = []
 

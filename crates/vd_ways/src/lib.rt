@@ -5,6 +5,7 @@ pub mod attributes;
 mod brackets;
 mod calls;
 mod characters;
+mod elements;
 mod lists;
 mod making;
 pub mod kinds;
@@ -12,6 +13,7 @@ pub mod roles;
 pub mod surroundings;
 pub mod types;
 mod values;
+mod wanted;
 
 pub use attributes::Attribute;
 pub use kinds::Kind;

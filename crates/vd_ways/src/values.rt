@@ -43,7 +43,7 @@ pub fn letter_name(alloc: Global, text: &[u8]) -> Result<Vec<u8>, AllocError>
 }
 
 /// A range between two bounds.
-fn bounds_way(mark: TypeId, after: &State) -> Way
+pub fn bounds_way(mark: TypeId, after: &State) -> Way
     ensures { result ≡ way_of_bounds mark after.now }
 {
     typed(mark, &State::Each(Want::Value(mark)), after)
