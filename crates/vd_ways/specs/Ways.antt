@@ -150,8 +150,8 @@ abbrev pub parameters_named : Sight → ℕ → Option (List ℕ) → List ℕ
 parameters_named s f None = []
 parameters_named s f (Some name) = filter (λ k. bytes_eq (name_of s k) name) (parameters_of s f)
 
-abbrev pub association_way : ℕ → ℕ → ℕ → Way
-association_way f index k = plain (state.Association k) (state.Arguments f (index + 1))
+abbrev pub association_way : State → ℕ → Way
+association_way behind k = plain (state.Association k) behind
 
 abbrev pub mark_of_some : Sight → Option ℕ → Option ℕ
 mark_of_some s None = None
@@ -167,7 +167,7 @@ value_ways_in (Some t) k s after form text parts = value_ways k s t after form t
 
 -- by position, or by the name of a parameter
 abbrev pub argument_ways : Kind → Sight → ℕ → ℕ → Form → List ℕ → Forest Form → List Way
-argument_ways kind.Association s f index form text parts = map (association_way f index) (parameters_named s f (only_one (names_in parts)))
+argument_ways kind.Association s f index form text parts = map (association_way (state.Arguments f (index + 1))) (parameters_named s f (only_one (names_in parts)))
 argument_ways k s f index form text parts = value_ways_in (mark_at s (parameters_of s f) index) k s (state.Arguments f (index + 1)) form text parts
 
 -- in an association of a call: the name of the parameter, and a value of its type

@@ -1,17 +1,20 @@
 //! Ways of the elements of lists in brackets, of what stands in their associations, and of the parts of physical literals.
 
-ghost use Rattle.std.specs.Prelude.{◌≡◌, ◌+◌, ◌∷◌, [], Some, IfOk, map};
+ghost use Rattle.std.specs.Prelude.{◌≡◌, ◌+◌, ◌∷◌, [], Some, None, IfOk, map};
 ghost use Rattle.std.specs.List.{filter_map};
 ghost use Rattle.std.specs.Option.{option_to_list, option_copied};
 ghost use Rattle.vd_ways.specs.Kinds.{kind_of as kind_at};
+ghost use Rattle.vd_states.specs.declared.states.State.TheVariants as state;
+ghost use Rattle.vd_states.specs.declared.states.Want.TheVariants as want;
+ghost use Rattle.vd_ways.specs.Lists.{only_one, names_in};
 ghost use Rattle.vd_ways.specs.Sights.{sight_from, class_of, mark_of, parameters_of};
-ghost use Rattle.vd_ways.specs.Ways.{number_ways as ways_of_number, unit_way, unit_ways, parameters_named, mark_at, value_ways_in, argument_ways, association_ways, formal_ways as ways_of_formal, element_ways, elements_ways, element_association_ways, positional_ways, field_ways, field_association_ways as ways_of_field_association, position_of, field_name_way, fields_named, field_name_ways};
+ghost use Rattle.vd_ways.specs.Ways.{number_ways as ways_of_number, unit_way, unit_ways, association_way, plain as plain_way, parameters_named, mark_at, value_ways_in, argument_ways, association_ways, formal_ways as ways_of_formal, element_ways, elements_ways, element_association_ways, positional_ways, field_ways, field_association_ways as ways_of_field_association, position_of, field_name_way, fields_named, field_name_ways};
 
 use crate::kinds::{Kind, kind_of};
 use crate::lists::{only_choice, simple_name};
 use crate::making::{naming, one, placed, plain, typed};
 use crate::surroundings::Surroundings;
-use crate::types::declaration_of;
+use crate::types::{declaration_of, element_of};
 use std::alloc::{AllocError, Global};
 use vd_declarations::{Class, DeclId, TypeId};
 use vd_forest::{Cursor, Opened};
@@ -81,6 +84,17 @@ impl<'a> Surroundings<'a> {
         }
     }
 
+    /// The ways of an identifier as a unit of a physical literal.
+    fn visible_units(&self, alloc: Global, text: &[u8]) -> Result<Vec<Way>, AllocError>
+        ensures { IfOk result (λ ways. ways.items ≡ filter_map (unit_way (sight_from self.now)) ((sight_from self.now).visible text.now)) }
+    {
+        let visible = self.visible(alloc, text)?;
+        visible
+            .iter()
+            .filter_map(|id| self.unit_way(*id))
+            .collect(alloc)
+    }
+
     /// The ways of the unit of a physical literal.
     pub fn unit_ways(
         &self,
@@ -91,13 +105,7 @@ impl<'a> Surroundings<'a> {
         ensures { IfOk result (λ ways. ways.items ≡ unit_ways kind (sight_from self.now) text.now) }
     {
         match kind {
-            Kind::Identifier => {
-                let visible = self.visible(alloc, text)?;
-                visible
-                    .iter()
-                    .filter_map(|id| self.unit_way(*id))
-                    .collect(alloc)
-            }
+            Kind::Identifier => self.visible_units(alloc, text),
             _ => Ok(Vec::new(alloc)),
         }
     }
@@ -126,5 +134,261 @@ impl<'a> Surroundings<'a> {
             None => Ok(Vec::new(alloc)),
             Some(mark) => self.value_ways(alloc, mark, after, node),
         }
+    }
+
+    /// The parameters of a name.
+    fn parameters_named(
+        &self,
+        alloc: Global,
+        function: DeclId,
+        name: Option<&[u8]>,
+    ) -> Result<Vec<DeclId>, AllocError>
+        ensures { IfOk result (λ found. found.items ≡ parameters_named (sight_from self.now) function (option_copied name.entry)) }
+    {
+        let mut found = Vec::new(alloc);
+        let Some(name) = name else {
+            return Ok(found);
+        };
+        let parameters = self.parameters_of(function);
+        for parameter in parameters {
+            if self.name_of(*parameter) == name {
+                found.push(*parameter)?;
+            }
+        }
+        Ok(found)
+    }
+
+    /// The ways of an association of a call.
+    fn named_argument_ways(
+        &self,
+        alloc: Global,
+        function: DeclId,
+        behind: &State,
+        association: &Cursor<'_, Form>,
+    ) -> Result<Vec<Way>, AllocError>
+        ensures { IfOk result (λ ways. ways.items ≡ map (association_way behind.now) (parameters_named (sight_from self.now) function (only_one (names_in association.now)))) }
+    {
+        let parameters = self.parameters_named(alloc, function, only_choice(association))?;
+        parameters
+            .iter()
+            .map(|parameter| association_way(*parameter, behind))
+            .collect(alloc)
+    }
+
+    /// The ways of an operand or an argument.
+    pub fn argument_ways(
+        &self,
+        alloc: Global,
+        function: DeclId,
+        index: u32,
+        node: &Opened<'_, Form>,
+    ) -> Result<Vec<Way>, AllocError>
+        ensures { IfOk result (λ ways. ways.items ≡ argument_ways (kind_at node.now.form) (sight_from self.now) function index node.now.form node.now.text.now node.now.parts) }
+    {
+        let index_behind = next_index(index)?;
+        let behind = State::Arguments {
+            function,
+            index: index_behind,
+        };
+        match kind_of(node.form) {
+            Kind::Association => self.named_argument_ways(alloc, function, &behind, &node.parts),
+            _ => {
+                let mark = self.mark_at(self.parameters_of(function), index);
+                self.value_ways_in(alloc, mark, &behind, node)
+            }
+        }
+    }
+
+    /// The ways of the choices in an association of a call.
+    pub fn association_ways(
+        &self,
+        alloc: Global,
+        kind: Kind,
+        parameter: DeclId,
+    ) -> Result<Vec<Way>, AllocError>
+        ensures { IfOk result (λ ways. ways.items ≡ association_ways kind (sight_from self.now) parameter) }
+    {
+        match kind {
+            Kind::AssociationChoices => match self.mark_of(parameter) {
+                None => Ok(Vec::new(alloc)),
+                Some(mark) => {
+                    let behind = State::Only(Want::Value(mark));
+                    one(alloc, &plain(&State::Formal { parameter }, &behind))
+                }
+            },
+            _ => Ok(Vec::new(alloc)),
+        }
+    }
+
+    /// The ways of an element of an array aggregate.
+    pub fn elements_ways(
+        &self,
+        alloc: Global,
+        array: TypeId,
+        node: &Opened<'_, Form>,
+    ) -> Result<Vec<Way>, AllocError>
+        ensures { IfOk result (λ ways. ways.items ≡ elements_ways (class_of (sight_from self.now) array) (kind_at node.now.form) (sight_from self.now) array node.now.form node.now.text.now node.now.parts) }
+    {
+        let Some(element) = element_of(self.class_of_type(array)) else {
+            return Ok(Vec::new(alloc));
+        };
+        let behind = State::Elements { array };
+        match kind_of(node.form) {
+            Kind::Association => {
+                one(alloc, &plain(&State::ElementAssociation { array }, &behind))
+            }
+            Kind::OthersAssociation => {
+                let inside = State::Only(Want::Value(element));
+                one(alloc, &plain(&inside, &behind))
+            }
+            _ => self.value_ways(alloc, element, &behind, node),
+        }
+    }
+
+    /// The ways of the choices in an association of an array aggregate.
+    pub fn element_association_ways(
+        &self,
+        alloc: Global,
+        kind: Kind,
+        array: TypeId,
+    ) -> Result<Vec<Way>, AllocError>
+        ensures { IfOk result (λ ways. ways.items ≡ element_association_ways kind (sight_from self.now) array) }
+    {
+        match kind {
+            Kind::AssociationChoices => match self.class_of_type(array) {
+                Class::ArrayType { index, element, .. } => {
+                    let inside = State::Each(Want::Choice(index));
+                    one(alloc, &plain(&inside, &State::Only(Want::Value(element))))
+                }
+                _ => Ok(Vec::new(alloc)),
+            },
+            _ => Ok(Vec::new(alloc)),
+        }
+    }
+
+    /// The ways of a positional element of a record aggregate.
+    fn positional_ways(
+        &self,
+        alloc: Global,
+        mark: TypeId,
+        index: Option<u32>,
+        others: Option<TypeId>,
+        node: &Opened<'_, Form>,
+    ) -> Result<Vec<Way>, AllocError>
+        ensures { IfOk result (λ ways. ways.items ≡ positional_ways index (kind_at node.now.form) (sight_from self.now) mark others node.now.form node.now.text.now node.now.parts) }
+    {
+        let Some(index) = index else {
+            return Ok(Vec::new(alloc));
+        };
+        let index_behind = next_index(index)?;
+        let behind = State::Fields {
+            mark,
+            index: Some(index_behind),
+            others,
+        };
+        let element = self.mark_at(self.parameters_of(declaration_of(mark)), index);
+        self.value_ways_in(alloc, element, &behind, node)
+    }
+
+    /// The ways of an element of a record aggregate.
+    pub fn field_ways(
+        &self,
+        alloc: Global,
+        mark: TypeId,
+        index: Option<u32>,
+        others: Option<TypeId>,
+        node: &Opened<'_, Form>,
+    ) -> Result<Vec<Way>, AllocError>
+        ensures { IfOk result (λ ways. ways.items ≡ field_ways (kind_at node.now.form) (sight_from self.now) mark index others node.now.form node.now.text.now node.now.parts) }
+    {
+        match kind_of(node.form) {
+            Kind::Association => {
+                let value = self.choices_type(alloc, mark, &node.parts)?;
+                named_field_ways(alloc, mark, value, others)
+            }
+            Kind::OthersAssociation => other_field_ways(alloc, mark, others),
+            _ => self.positional_ways(alloc, mark, index, others, node),
+        }
+    }
+
+    /// The place of an element among those of its record type.
+    pub fn position_of(&self, mark: TypeId, element: DeclId) -> Result<u32, AllocError>
+        ensures { IfOk result (λ position. position ≡ position_of (sight_from self.now) mark element) }
+    {
+        let elements = self.parameters_of(declaration_of(mark));
+        match elements.iter().position(|id| id.number() == element.number()) {
+            None => Ok(0),
+            Some(position) => narrow(position),
+        }
+    }
+
+    /// The element of a record that a choice names.
+    fn field_name_way(&self, mark: TypeId, element: DeclId) -> Result<Way, AllocError>
+        ensures { IfOk result (λ way. way ≡ field_name_way (sight_from self.now) mark element) }
+    {
+        let position = self.position_of(mark, element)?;
+        Ok(placed(
+            element,
+            None,
+            position,
+            &State::Leaf,
+            &State::FieldNames { mark },
+        ))
+    }
+}
+
+/// An association of a call, with the name of a parameter.
+fn association_way(parameter: DeclId, behind: &State) -> Way
+    ensures { result ≡ association_way behind.now parameter }
+{
+    plain(&State::Association { parameter }, behind)
+}
+
+/// The ways of an association of a record aggregate whose choices name elements of a type.
+fn named_field_ways(
+    alloc: Global,
+    mark: TypeId,
+    value: Option<TypeId>,
+    others: Option<TypeId>,
+) -> Result<Vec<Way>, AllocError>
+    ensures { IfOk result (λ ways. ways.items ≡ map (λ u. plain_way (state.FieldAssociation mark u) (state.Fields mark None others)) (option_to_list value)) }
+{
+    let Some(value) = value else {
+        return Ok(Vec::new(alloc));
+    };
+    let behind = State::Fields {
+        mark,
+        index: None,
+        others,
+    };
+    one(alloc, &plain(&State::FieldAssociation { mark, value }, &behind))
+}
+
+/// The ways of the association for all other elements of a record aggregate.
+fn other_field_ways(
+    alloc: Global,
+    mark: TypeId,
+    others: Option<TypeId>,
+) -> Result<Vec<Way>, AllocError>
+    ensures { IfOk result (λ ways. ways.items ≡ map (λ u. plain_way (state.Only (want.Value u)) (state.Fields mark None others)) (option_to_list others)) }
+{
+    let Some(value) = others else {
+        return Ok(Vec::new(alloc));
+    };
+    let behind = State::Fields {
+        mark,
+        index: None,
+        others,
+    };
+    one(alloc, &plain(&State::Only(Want::Value(value)), &behind))
+}
+
+/// A number that fits, unless there is no more room.
+fn narrow(number: usize) -> Result<u32, AllocError>
+    ensures { IfOk result (λ n. n ≡ number) }
+{
+    match u32::try_from(number) {
+        Ok(number) => Ok(number),
+        Err(_) => Err(AllocError),
     }
 }
