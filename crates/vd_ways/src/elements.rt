@@ -1,6 +1,6 @@
 //! Ways of the elements of lists in brackets, of what stands in their associations, and of the parts of physical literals.
 
-ghost use Rattle.std.specs.Prelude.{◌≡◌, ◌+◌, ◌∷◌, [], Some, None, IfOk, map};
+ghost use Rattle.std.specs.Prelude.{◌≡◌, ◌+◌, ◌∷◌, [], ◌==◌, Some, None, IfOk, map, position};
 ghost use Rattle.std.specs.List.{filter_map};
 ghost use Rattle.std.specs.Option.{option_to_list, option_copied};
 ghost use Rattle.vd_ways.specs.Kinds.{kind_of as kind_at};
@@ -316,7 +316,7 @@ impl<'a> Surroundings<'a> {
         ensures { IfOk result (λ position. position ≡ position_of (sight_from self.now) mark element) }
     {
         let elements = self.parameters_of(declaration_of(mark));
-        match elements.iter().position(|id| id.number() == element.number()) {
+        match position_among(elements, element) {
             None => Ok(0),
             Some(position) => narrow(position),
         }
@@ -335,6 +335,13 @@ impl<'a> Surroundings<'a> {
             &State::FieldNames { mark },
         ))
     }
+}
+
+/// The place of a declaration among some.
+fn position_among(ids: &[DeclId], wanted: DeclId) -> Option<usize>
+    ensures { result ≡ position (λ j. j == wanted) ids.now }
+{
+    ids.iter().position(|id| id.number() == wanted.number())
 }
 
 /// An association of a call, with the name of a parameter.

@@ -8,6 +8,7 @@ mod characters;
 mod elements;
 mod lists;
 mod making;
+mod names;
 pub mod kinds;
 pub mod roles;
 pub mod surroundings;
