@@ -328,10 +328,14 @@ named_argument_ways role.Mark s k goal parts = conversion_ways (type_meant s k) 
 named_argument_ways _ s k goal parts = []
 
 -- behind an array value, an index or a discrete range: an element or a slice, which are signals where the array is one
+abbrev pub element_way : ℕ → ℕ → Bool → Want → Way
+element_way index element signal goal = typed element (state.Only (want.Value index)) (state.Suffixes (prefix.Valued element signal) goal)
+
+abbrev pub slice_way : ℕ → ℕ → Bool → Want → Way
+slice_way index array signal goal = typed array (state.Only (want.DiscreteRange index)) (state.Suffixes (prefix.Valued array signal) goal)
+
 abbrev pub indexed_ways : Class → ℕ → Bool → Want → List Way
-indexed_ways (class.ArrayType index element mark) t signal goal =
-    typed element (state.Only (want.Value index)) (state.Suffixes (prefix.Valued element signal) goal)
-    ∷ (typed t (state.Only (want.DiscreteRange index)) (state.Suffixes (prefix.Valued t signal) goal) ∷ [])
+indexed_ways (class.ArrayType index element mark) t signal goal = element_way index element signal goal ∷ slice_way index t signal goal ∷ []
 indexed_ways _ t signal goal = []
 
 abbrev pub bracket_ways : Prefix → Sight → Want → Forest Form → List Way

@@ -11,6 +11,7 @@ mod making;
 mod names;
 pub mod kinds;
 pub mod roles;
+mod suffixes;
 pub mod surroundings;
 pub mod types;
 mod values;

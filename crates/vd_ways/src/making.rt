@@ -95,6 +95,23 @@ pub fn one(alloc: Global, way: &Way) -> Result<Vec<Way>, AllocError>
     listed(alloc, way)
 }
 
+/// A list of two.
+fn listed_two<T: Copy + Drop>(alloc: Global, one: &T, other: &T) -> Result<Vec<T>, AllocError>
+    ensures { IfOk result (λ items. items.items ≡ one.now ∷ other.now ∷ []) }
+{
+    let mut items = Vec::new(alloc);
+    items.push(*one)?;
+    items.push(*other)?;
+    Ok(items)
+}
+
+/// Two ways.
+pub fn two(alloc: Global, one: &Way, other: &Way) -> Result<Vec<Way>, AllocError>
+    ensures { IfOk result (λ ways. ways.items ≡ one.now ∷ other.now ∷ []) }
+{
+    listed_two(alloc, one, other)
+}
+
 /// A way where a condition holds.
 pub fn where_true(alloc: Global, holds: bool, way: &Way) -> Result<Vec<Way>, AllocError>
     ensures { IfOk result (λ ways. ways.items ≡ ways_where holds way.now) }
