@@ -2,7 +2,7 @@
 -- A state says what is wanted of the trees that stand side by side from a place on. A way says what the first of them gets, which state its
 -- parts have, and which state what stands behind it has. A way looks at a node's form and text and at the forms and texts of its parts,
 -- and never at what these turn out to be.
-use Rattle.std.specs.Prelude.{ℕ, ◌+◌, ◌==◌, Bool, true, false, ◌&&◌, List, [], ◌∷◌, ◌++◌, length, map, position, Option, Some, None, codes, slice_get, if◌then◌else◌}
+use Rattle.std.specs.Prelude.{ℕ, ◌+◌, ◌==◌, Bool, true, false, ◌&&◌, List, [], ◌∷◌, ◌++◌, length, map, position, take, Option, Some, None, codes, slice_get, if◌then◌else◌}
 use Rattle.std.specs.List.{filter, filter_map, list_all}
 use Rattle.std.specs.Option.{option_to_list, unwrap_or}
 use Rattle.std.specs.Str.{bytes_eq, str_to_ascii_lowercase}
@@ -219,9 +219,9 @@ abbrev pub field_association_ways : Kind → ℕ → ℕ → List Way
 field_association_ways kind.AssociationChoices t u = plain (state.FieldNames t) (state.Only (want.Value u)) ∷ []
 field_association_ways _ t u = []
 
--- the place of an element among those of its record type
+-- the place of an element among those of its record type. A position has 32 bits
 abbrev pub position_of : Sight → ℕ → ℕ → ℕ
-position_of s t k = unwrap_or (position (λ j. j == k) (parameters_of s t)) 0
+position_of s t k = unwrap_or (position (λ j. j == k) (take 4294967296 (parameters_of s t))) 0
 
 abbrev pub field_name_way : Sight → ℕ → ℕ → Way
 field_name_way s t k = placed k None (position_of s t k) state.Leaf (state.FieldNames t)

@@ -1,6 +1,6 @@
 //! Ways of the elements of lists in brackets, of what stands in their associations, and of the parts of physical literals.
 
-ghost use Rattle.std.specs.Prelude.{◌≡◌, ◌+◌, ◌∷◌, [], ◌==◌, Some, None, IfOk, map, position};
+ghost use Rattle.std.specs.Prelude.{◌≡◌, ◌+◌, ◌∷◌, [], ◌==◌, Some, None, IfOk, map, position, take, length, ◌<◌, ◌≤◌, IfSome};
 ghost use Rattle.std.specs.List.{filter_map};
 ghost use Rattle.std.specs.Option.{option_to_list, option_copied};
 ghost use Rattle.vd_ways.specs.Kinds.{kind_of as kind_at};
@@ -312,34 +312,79 @@ impl<'a> Surroundings<'a> {
     }
 
     /// The place of an element among those of its record type.
-    pub fn position_of(&self, mark: TypeId, element: DeclId) -> Result<u32, AllocError>
-        ensures { IfOk result (λ position. position ≡ position_of (sight_from self.now) mark element) }
+    pub fn position_of(&self, mark: TypeId, element: DeclId) -> u32
+        ensures { result ≡ position_of (sight_from self.now) mark element }
     {
-        let elements = self.parameters_of(declaration_of(mark));
-        match position_among(elements, element) {
-            None => Ok(0),
-            Some(position) => narrow(position),
-        }
+        let elements = first_ones(self.parameters_of(declaration_of(mark)), 1 << 32);
+        let Some(position) = position_among(elements, element) else {
+            return 0;
+        };
+        position as u32
     }
 
     /// The element of a record that a choice names.
-    fn field_name_way(&self, mark: TypeId, element: DeclId) -> Result<Way, AllocError>
-        ensures { IfOk result (λ way. way ≡ field_name_way (sight_from self.now) mark element) }
+    fn field_name_way(&self, mark: TypeId, element: DeclId) -> Way
+        ensures { result ≡ field_name_way (sight_from self.now) mark element }
     {
-        let position = self.position_of(mark, element)?;
-        Ok(placed(
+        let position = self.position_of(mark, element);
+        placed(
             element,
             None,
             position,
             &State::Leaf,
             &State::FieldNames { mark },
-        ))
+        )
+    }
+
+    /// The elements of a record type that a choice names.
+    fn fields_named(
+        &self,
+        alloc: Global,
+        mark: TypeId,
+        name: Option<&[u8]>,
+    ) -> Result<Vec<DeclId>, AllocError>
+        ensures { IfOk result (λ found. found.items ≡ fields_named (sight_from self.now) mark (option_copied name.entry)) }
+    {
+        match name {
+            None => Ok(Vec::new(alloc)),
+            Some(name) => self.elements_named(alloc, mark, name),
+        }
+    }
+
+    /// The ways of a choice of a record aggregate.
+    pub fn field_name_ways(
+        &self,
+        alloc: Global,
+        mark: TypeId,
+        form: Form,
+        parts: &Cursor<'_, Form>,
+    ) -> Result<Vec<Way>, AllocError>
+        ensures { IfOk result (λ ways. ways.items ≡ field_name_ways (sight_from self.now) mark form parts.now) }
+    {
+        let elements = self.fields_named(alloc, mark, simple_name(form, parts))?;
+        elements
+            .iter()
+            .map(|element| self.field_name_way(mark, *element))
+            .collect(alloc)
+    }
+}
+
+/// The first ones, so many at most.
+fn first_ones<'a>(ids: &'a [DeclId], most: usize) -> &'a [DeclId]
+    ensures is { result.now ≡ take most ids.now }
+    ensures few { length result.now ≤ most }
+{
+    if ids.len() <= most {
+        ids
+    } else {
+        &ids[..most]
     }
 }
 
 /// The place of a declaration among some.
 fn position_among(ids: &[DeclId], wanted: DeclId) -> Option<usize>
-    ensures { result ≡ position (λ j. j == wanted) ids.now }
+    ensures is { result ≡ position (λ j. j == wanted) ids.now }
+    ensures within { IfSome result (λ i. i < length ids.now) }
 {
     ids.iter().position(|id| id.number() == wanted.number())
 }
@@ -388,14 +433,4 @@ fn other_field_ways(
         others,
     };
     one(alloc, &plain(&State::Only(Want::Value(value)), &behind))
-}
-
-/// A number that fits, unless there is no more room.
-fn narrow(number: usize) -> Result<u32, AllocError>
-    ensures { IfOk result (λ n. n ≡ number) }
-{
-    match u32::try_from(number) {
-        Ok(number) => Ok(number),
-        Err(_) => Err(AllocError),
-    }
 }

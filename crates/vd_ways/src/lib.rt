@@ -2,6 +2,7 @@
 #![tactic(auto)]
 
 pub mod attributes;
+mod attributing;
 mod brackets;
 mod calls;
 mod characters;

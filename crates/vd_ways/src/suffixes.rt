@@ -7,6 +7,7 @@ ghost use Rattle.vd_states.specs.declared.states.State.TheVariants.{Leaf};
 ghost use Rattle.vd_ways.specs.Sights.{sight_from, class_of, mark_of};
 ghost use Rattle.vd_ways.specs.Kinds.{role_of as role_at};
 ghost use Rattle.vd_ways.specs.Types.{type_meant, sources};
+ghost use Rattle.vd_ways.specs.Lists.{elements_named};
 ghost use Rattle.vd_ways.specs.Ways.{selection_name as name_selected, declaration_way, unit_selection_ways, field_way, field_way_of, selection_ways, call_ways, conversion_way as way_of_conversion, conversion_ways, named_argument_ways, element_way as way_of_element, slice_way as way_of_slice, indexed_ways, bracket_ways, qualified_ways, qualification_ways};
 
 use crate::kinds::{Kind, kind_of};
@@ -124,19 +125,11 @@ impl<'a> Surroundings<'a> {
     }
 
     /// An element of a record value.
-    fn field_way(
-        &self,
-        mark: TypeId,
-        signal: bool,
-        goal: &Want,
-        element: DeclId,
-    ) -> Result<Option<Way>, AllocError>
-        ensures { IfOk result (λ way. way ≡ field_way (sight_from self.now) mark signal goal.now element) }
+    fn field_way(&self, mark: TypeId, signal: bool, goal: &Want, element: DeclId) -> Option<Way>
+        ensures { result ≡ field_way (sight_from self.now) mark signal goal.now element }
     {
-        let position = self.position_of(mark, element)?;
-        let Some(value) = self.mark_of(element) else {
-            return Ok(None);
-        };
+        let position = self.position_of(mark, element);
+        let value = self.mark_of(element)?;
         let after = State::Suffixes {
             prefix: Prefix::Valued {
                 mark: value,
@@ -144,8 +137,53 @@ impl<'a> Surroundings<'a> {
             },
             goal: *goal,
         };
-        let way = placed(element, Some(value), position, &State::Leaf, &after);
-        Ok(Some(way))
+        Some(placed(
+            element,
+            Some(value),
+            position,
+            &State::Leaf,
+            &after,
+        ))
+    }
+
+    /// The ways of a selection behind a record value.
+    fn field_selection_ways(
+        &self,
+        alloc: Global,
+        mark: TypeId,
+        signal: bool,
+        goal: &Want,
+        name: &[u8],
+    ) -> Result<Vec<Way>, AllocError>
+        ensures { IfOk result (λ ways. ways.items ≡ filter_map (field_way (sight_from self.now) mark signal goal.now) (elements_named (sight_from self.now) mark name.now)) }
+    {
+        let elements = self.elements_named(alloc, mark, name)?;
+        elements
+            .iter()
+            .filter_map(|element| self.field_way(mark, signal, goal, *element))
+            .collect(alloc)
+    }
+
+    /// The ways of a selection.
+    pub fn selection_ways(
+        &self,
+        alloc: Global,
+        prefix: &Prefix,
+        goal: &Want,
+        parts: &Cursor<'_, Form>,
+    ) -> Result<Vec<Way>, AllocError>
+        ensures { IfOk result (λ ways. ways.items ≡ selection_ways prefix.now (sight_from self.now) goal.now (name_selected parts.now)) }
+    {
+        let Some(name) = selection_name(alloc, parts)? else {
+            return Ok(Vec::new(alloc));
+        };
+        match prefix {
+            Prefix::Named(unit) => self.unit_selection_ways(alloc, *unit, goal, &name),
+            Prefix::Valued { mark, signal } => {
+                self.field_selection_ways(alloc, *mark, *signal, goal, &name)
+            }
+            Prefix::Ranged(_) | Prefix::Attributed { .. } => Ok(Vec::new(alloc)),
+        }
     }
 
     /// The ways of arguments behind a function.
@@ -240,6 +278,46 @@ impl<'a> Surroundings<'a> {
         match &inside {
             None => Ok(Vec::new(alloc)),
             Some(inside) => one(alloc, &chosen(id, mark, inside, &value_after(mark, goal))),
+        }
+    }
+
+    /// The ways of brackets behind a name.
+    pub fn bracket_ways(
+        &self,
+        alloc: Global,
+        prefix: &Prefix,
+        goal: &Want,
+        parts: &Cursor<'_, Form>,
+    ) -> Result<Vec<Way>, AllocError>
+        ensures { IfOk result (λ ways. ways.items ≡ bracket_ways prefix.now (sight_from self.now) goal.now parts.now) }
+    {
+        match prefix {
+            Prefix::Named(id) => self.named_argument_ways_of(alloc, *id, goal, parts),
+            Prefix::Valued { mark, signal } => self.indexed_ways(alloc, *mark, *signal, goal),
+            Prefix::Ranged(_) => Ok(Vec::new(alloc)),
+            Prefix::Attributed { argument, result } => {
+                let inside = State::Only(Want::Value(*argument));
+                let way = typed(*result, &inside, &value_after(*result, goal));
+                one(alloc, &way)
+            }
+        }
+    }
+
+    /// The ways of a qualified expression behind a name.
+    pub fn qualification_ways(
+        &self,
+        alloc: Global,
+        prefix: &Prefix,
+        goal: &Want,
+        parts: &Cursor<'_, Form>,
+    ) -> Result<Vec<Way>, AllocError>
+        ensures { IfOk result (λ ways. ways.items ≡ qualification_ways prefix.now (sight_from self.now) goal.now parts.now) }
+    {
+        match prefix {
+            Prefix::Named(id) => self.qualified_ways(alloc, *id, goal, parts),
+            Prefix::Valued { .. } | Prefix::Ranged(_) | Prefix::Attributed { .. } => {
+                Ok(Vec::new(alloc))
+            }
         }
     }
 }
