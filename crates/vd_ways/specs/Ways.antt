@@ -419,24 +419,29 @@ suffix_ways _ s p goal parts = []
 
 -- ---- all ways of a node in a state
 
+-- elements of lists in brackets, and what stands in their associations
+abbrev pub listed_ways : Sight → State → Form → List ℕ → Forest Form → List Way
+listed_ways s (state.Arguments f index) form text parts = argument_ways (kind_of form) s f index form text parts
+listed_ways s (state.Association parameter) form text parts = association_ways (kind_of form) s parameter
+listed_ways s (state.Formal parameter) form text parts = formal_ways (kind_of form) parameter
+listed_ways s (state.Elements t) form text parts = elements_ways (class_of s t) (kind_of form) s t form text parts
+listed_ways s (state.ElementAssociation t) form text parts = element_association_ways (kind_of form) s t
+listed_ways s (state.Fields t index others) form text parts = field_ways (kind_of form) s t index others form text parts
+listed_ways s (state.FieldAssociation t u) form text parts = field_association_ways (kind_of form) t u
+listed_ways s (state.FieldNames t) form text parts = field_name_ways s t form parts
+listed_ways s _ form text parts = []
+
 abbrev pub ways : Sight → State → Form → List ℕ → Forest Form → List Way
 ways s state.Done form text parts = []
+ways s state.Leaf form text parts = plain state.Done state.Done ∷ []
 ways s (state.Only w) form text parts = wanted_ways w s state.Done form text parts
 ways s (state.Each w) form text parts = wanted_ways w s (state.Each w) form text parts
-ways s state.Leaf form text parts = plain state.Done state.Done ∷ []
 ways s (state.ConstrainedMark t) form text parts = mark_ways (kind_of form) t (state.Only (want.Range t))
 ways s state.PhysicalValue form text parts = number_ways (kind_of form)
 ways s state.PhysicalUnit form text parts = unit_ways (kind_of form) s text
-ways s (state.Arguments f index) form text parts = argument_ways (kind_of form) s f index form text parts
-ways s (state.Association parameter) form text parts = association_ways (kind_of form) s parameter
-ways s (state.Formal parameter) form text parts = formal_ways (kind_of form) parameter
-ways s (state.Elements t) form text parts = elements_ways (class_of s t) (kind_of form) s t form text parts
-ways s (state.ElementAssociation t) form text parts = element_association_ways (kind_of form) s t
-ways s (state.Fields t index others) form text parts = field_ways (kind_of form) s t index others form text parts
-ways s (state.FieldAssociation t u) form text parts = field_association_ways (kind_of form) t u
-ways s (state.FieldNames t) form text parts = field_name_ways s t form parts
 ways s (state.Head goal) form text parts = head_ways (kind_of form) s goal text
 ways s (state.Suffixes p goal) form text parts = suffix_ways (kind_of form) s p goal parts
+ways s other form text parts = listed_ways s other form text parts
 
 -- ---- where a list of trees may end
 

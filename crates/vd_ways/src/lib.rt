@@ -12,6 +12,7 @@ mod making;
 mod names;
 pub mod kinds;
 pub mod roles;
+pub mod setting;
 mod suffixes;
 pub mod surroundings;
 pub mod types;
