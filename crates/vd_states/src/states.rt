@@ -69,11 +69,11 @@ pub enum State {
     ElementAssociation {
         array: TypeId,
     },
-    /// Elements of a record aggregate, a positional one being that of this index from 0. What `others` stands for has the type, where
-    /// there is one.
+    /// Elements of a record aggregate, a positional one being that of this index from 0, and none where there is no index. What `others`
+    /// stands for has the type, where there is one.
     Fields {
         mark: TypeId,
-        index: u32,
+        index: Option<u32>,
         others: Option<TypeId>,
     },
     /// What stands in an association of a record aggregate: choices, and a value of this type behind them.

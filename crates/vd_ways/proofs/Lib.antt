@@ -1,0 +1,5 @@
+pub mod NameLemmas
+pub mod TypeLemmas
+pub mod CharacterLemmas
+pub mod FilterLemmas
+pub mod PositionLemmas

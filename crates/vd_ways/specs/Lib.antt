@@ -1,0 +1,6 @@
+pub mod Sights
+pub mod Kinds
+pub mod Types
+pub mod Lists
+pub mod Ways
+pub mod Brackets
