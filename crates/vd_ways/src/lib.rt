@@ -7,7 +7,7 @@ mod brackets;
 mod calls;
 mod characters;
 mod elements;
-mod lists;
+pub mod lists;
 mod making;
 mod names;
 pub mod kinds;
