@@ -1,0 +1,2 @@
+pub mod Interpretations
+pub mod Laws
