@@ -1,5 +1,1 @@
-pub mod NameLemmas
-pub mod TypeLemmas
-pub mod CharacterLemmas
-pub mod FilterLemmas
 pub mod PositionLemmas

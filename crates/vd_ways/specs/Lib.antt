@@ -1,6 +1,1 @@
-pub mod Sights
-pub mod Kinds
-pub mod Types
-pub mod Lists
 pub mod Ways
-pub mod Brackets

@@ -18,16 +18,16 @@ use Rattle.vd_states.specs.declared.states.Want.TheVariants as want
 use Rattle.vd_states.specs.declared.states.Prefix.{Prefix}
 use Rattle.vd_states.specs.declared.states.Prefix.TheVariants as prefix
 use Rattle.vd_states.specs.declared.ways.Way.{Way}
-use Rattle.vd_ways.specs.declared.kinds.Kind.{Kind}
-use Rattle.vd_ways.specs.declared.kinds.Kind.TheVariants as kind
-use Rattle.vd_ways.specs.declared.attributes.Attribute.{Attribute}
-use Rattle.vd_ways.specs.declared.attributes.Attribute.TheVariants as attribute
-use Rattle.vd_ways.specs.declared.roles.Role.{Role}
-use Rattle.vd_ways.specs.declared.roles.Role.TheVariants as role
-use Rattle.vd_ways.specs.Kinds.{kind_of, symbol_of, attribute_named, role_of}
-use Rattle.vd_ways.specs.Sights.{Sight, class_of, mark_of, name_of, parameters_of}
-use Rattle.vd_ways.specs.Types.{is_some_type, is_discrete, is_scalar, is_record, index_of, element_of, type_meant, position_in, letter_name, has_character, sources}
-use Rattle.vd_ways.specs.Lists.{names_in, only_one, simple_name, fits_call, in_brackets, elements_named, choices_type}
+use Rattle.vd_sights.specs.declared.kinds.Kind.{Kind}
+use Rattle.vd_sights.specs.declared.kinds.Kind.TheVariants as kind
+use Rattle.vd_sights.specs.declared.attributes.Attribute.{Attribute}
+use Rattle.vd_sights.specs.declared.attributes.Attribute.TheVariants as attribute
+use Rattle.vd_sights.specs.declared.roles.Role.{Role}
+use Rattle.vd_sights.specs.declared.roles.Role.TheVariants as role
+use Rattle.vd_sights.specs.Kinds.{kind_of, symbol_of, attribute_named, role_of}
+use Rattle.vd_sights.specs.Sights.{Sight, class_of, mark_of, name_of, parameters_of}
+use Rattle.vd_sights.specs.Types.{is_some_type, is_discrete, is_scalar, is_record, index_of, element_of, type_meant, position_in, letter_name, spells, sources}
+use Rattle.vd_sights.specs.Lists.{names_in, only_one, simple_name, fits_call, in_brackets, elements_named, choices_type}
 
 -- ---- ways
 
@@ -63,14 +63,9 @@ where_true b way = if b then way ∷ [] else []
 abbrev pub letter_way : Sight → ℕ → State → ℕ → Option Way
 letter_way s t after k =
     elim (class_of s k) [
-      class.EnumerationLiteral ↦ if_true (is_some_type t (mark_of s k)) (placed k (Some t) (position_in t k) state.Done after)
-    | _ ↦ None ]
-
--- a literal in quotation marks is of each array type whose elements are of an enumeration type with all its characters
-abbrev pub spells : Sight → Option ℕ → List ℕ → Bool
-spells s None text = false
-spells s (Some element) text =
-    elim (class_of s element) [ class.EnumerationType ↦ list_all (has_character s element) text | _ ↦ false ]
+      | class.EnumerationLiteral ↦ if_true (is_some_type t (mark_of s k)) (placed k (Some t) (position_in t k) state.Done after)
+      | _ ↦ None
+    ]
 
 abbrev pub text_ways : Sight → ℕ → State → List ℕ → List Way
 text_ways s t after text = where_true (spells s (element_of (class_of s t)) text) (typed t state.Done after)
@@ -79,8 +74,9 @@ text_ways s t after text = where_true (spells s (element_of (class_of s t)) text
 abbrev pub operator_way : Sight → ℕ → State → ℕ → Option Way
 operator_way s t after k =
     elim (role_of (class_of s k)) [
-      role.Function ↦ if_true (is_some_type t (mark_of s k)) (chosen k t (state.Arguments k 0) after)
-    | _ ↦ None ]
+      | role.Function ↦ if_true (is_some_type t (mark_of s k)) (chosen k t (state.Arguments k 0) after)
+      | _ ↦ None
+    ]
 
 abbrev pub value_ways : Kind → Sight → ℕ → State → Form → List ℕ → Forest Form → List Way
 value_ways kind.Number s t after form text parts = where_true (t == INTEGER) (typed t state.Done after)

@@ -1,18 +1,18 @@
 //! Ways of attributes.
 
 ghost use Rattle.std.specs.Prelude.{◌≡◌, ◌∷◌, [], IfOk};
-ghost use Rattle.vd_ways.specs.Sights.{sight_from};
-ghost use Rattle.vd_ways.specs.Types.{type_meant};
+ghost use Rattle.vd_sights.specs.Sights.{sight_from};
+ghost use Rattle.vd_sights.specs.Types.{type_meant};
 ghost use Rattle.vd_ways.specs.Ways.{range_attribute_ways as ways_of_range, attribute_of_type as ways_of_value, array_attribute_ways as ways_of_array, attributed as ways_with_argument, scalar_attribute_ways as ways_of_scalar, mark_attribute_ways, value_attribute_ways, attribute_ways, prefix_index};
 
-use crate::attributes::Attribute;
 use crate::making::{one, plain, typed, where_true};
 use crate::names::value_after;
-use crate::surroundings::Surroundings;
-use crate::types::{index_of, is_scalar};
 use std::alloc::{AllocError, Global};
 use vd_declarations::TypeId;
 use vd_given::numbers::{BOOLEAN, INTEGER, STRING, TIME};
+use vd_sights::Surroundings;
+use vd_sights::attributes::Attribute;
+use vd_sights::types::{index_of, is_scalar};
 use vd_states::{Prefix, State, Want, Way};
 
 /// An attribute that is a range of the indexes of an array.
@@ -106,85 +106,83 @@ fn scalar_attribute_ways(
     }
 }
 
-impl<'a> Surroundings<'a> {
-    /// The ways of an attribute of a type.
-    fn mark_attribute_ways(
-        &self,
-        alloc: Global,
-        mark: Option<TypeId>,
-        attribute: Attribute,
-        goal: &Want,
-    ) -> Result<Vec<Way>, AllocError>
-        ensures { IfOk result (λ ways. ways.items ≡ mark_attribute_ways mark attribute (sight_from self.now) goal.now) }
-    {
-        let Some(mark) = mark else {
-            return Ok(Vec::new(alloc));
-        };
-        if is_scalar(self.class_of_type(mark)) {
-            scalar_attribute_ways(alloc, attribute, mark, goal)
-        } else {
-            let index = index_of(self.class_of_type(mark));
+/// The ways of an attribute of a type.
+fn mark_attribute_ways(
+    at: &Surroundings<'_>,
+    alloc: Global,
+    mark: Option<TypeId>,
+    attribute: Attribute,
+    goal: &Want,
+) -> Result<Vec<Way>, AllocError>
+    ensures { IfOk result (λ ways. ways.items ≡ mark_attribute_ways mark attribute (sight_from at.now) goal.now) }
+{
+    let Some(mark) = mark else {
+        return Ok(Vec::new(alloc));
+    };
+    if is_scalar(at.class_of_type(mark)) {
+        scalar_attribute_ways(alloc, attribute, mark, goal)
+    } else {
+        let index = index_of(at.class_of_type(mark));
+        array_attribute_ways(alloc, attribute, index, goal)
+    }
+}
+
+/// The ways of an attribute of a value.
+fn value_attribute_ways(
+    at: &Surroundings<'_>,
+    alloc: Global,
+    attribute: Attribute,
+    mark: TypeId,
+    signal: bool,
+    goal: &Want,
+) -> Result<Vec<Way>, AllocError>
+    ensures { IfOk result (λ ways. ways.items ≡ value_attribute_ways attribute (sight_from at.now) mark signal goal.now) }
+{
+    match attribute {
+        Attribute::Event => {
+            let boolean = TypeId::of(BOOLEAN);
+            let way = typed(boolean, &State::Leaf, &value_after(boolean, goal));
+            where_true(alloc, signal, &way)
+        }
+        _ => {
+            let index = index_of(at.class_of_type(mark));
             array_attribute_ways(alloc, attribute, index, goal)
         }
     }
+}
 
-    /// The ways of an attribute of a value.
-    fn value_attribute_ways(
-        &self,
-        alloc: Global,
-        attribute: Attribute,
-        mark: TypeId,
-        signal: bool,
-        goal: &Want,
-    ) -> Result<Vec<Way>, AllocError>
-        ensures { IfOk result (λ ways. ways.items ≡ value_attribute_ways attribute (sight_from self.now) mark signal goal.now) }
-    {
-        match attribute {
-            Attribute::Event => {
-                let boolean = TypeId::of(BOOLEAN);
-                let way = typed(boolean, &State::Leaf, &value_after(boolean, goal));
-                where_true(alloc, signal, &way)
-            }
-            _ => {
-                let index = index_of(self.class_of_type(mark));
-                array_attribute_ways(alloc, attribute, index, goal)
-            }
+/// The ways of an attribute.
+pub fn attribute_ways(
+    at: &Surroundings<'_>,
+    alloc: Global,
+    prefix: &Prefix,
+    attribute: Attribute,
+    goal: &Want,
+) -> Result<Vec<Way>, AllocError>
+    ensures { IfOk result (λ ways. ways.items ≡ attribute_ways prefix.now attribute (sight_from at.now) goal.now) }
+{
+    match prefix {
+        Prefix::Named(id) => {
+            let mark = at.type_meant(*id);
+            mark_attribute_ways(at, alloc, mark, attribute, goal)
         }
+        Prefix::Valued { mark, signal } => {
+            value_attribute_ways(at, alloc, attribute, *mark, *signal, goal)
+        }
+        Prefix::Ranged(_) | Prefix::Attributed { .. } => Ok(Vec::new(alloc)),
     }
+}
 
-    /// The ways of an attribute.
-    pub fn attribute_ways(
-        &self,
-        alloc: Global,
-        prefix: &Prefix,
-        attribute: Attribute,
-        goal: &Want,
-    ) -> Result<Vec<Way>, AllocError>
-        ensures { IfOk result (λ ways. ways.items ≡ attribute_ways prefix.now attribute (sight_from self.now) goal.now) }
-    {
-        match prefix {
-            Prefix::Named(id) => {
-                let mark = self.type_meant(*id);
-                self.mark_attribute_ways(alloc, mark, attribute, goal)
-            }
-            Prefix::Valued { mark, signal } => {
-                self.value_attribute_ways(alloc, attribute, *mark, *signal, goal)
-            }
-            Prefix::Ranged(_) | Prefix::Attributed { .. } => Ok(Vec::new(alloc)),
-        }
-    }
-
-    /// The type of the indexes of what is an array so far.
-    pub fn prefix_index(&self, prefix: &Prefix) -> Option<TypeId>
-        ensures { result ≡ prefix_index prefix.now (sight_from self.now) }
-    {
-        match prefix {
-            Prefix::Named(id) => match self.type_meant(*id) {
-                None => None,
-                Some(mark) => index_of(self.class_of_type(mark)),
-            },
-            Prefix::Valued { mark, .. } => index_of(self.class_of_type(*mark)),
-            Prefix::Ranged(_) | Prefix::Attributed { .. } => None,
-        }
+/// The type of the indexes of what is an array so far.
+pub fn prefix_index(at: &Surroundings<'_>, prefix: &Prefix) -> Option<TypeId>
+    ensures { result ≡ prefix_index prefix.now (sight_from at.now) }
+{
+    match prefix {
+        Prefix::Named(id) => match at.type_meant(*id) {
+            None => None,
+            Some(mark) => index_of(at.class_of_type(mark)),
+        },
+        Prefix::Valued { mark, .. } => index_of(at.class_of_type(*mark)),
+        Prefix::Ranged(_) | Prefix::Attributed { .. } => None,
     }
 }

@@ -61,13 +61,7 @@ pub fn chosen(id: DeclId, mark: TypeId, inside: &State, after: &State) -> Way
 }
 
 /// An enumeration literal or a record element.
-pub fn placed(
-    id: DeclId,
-    mark: Option<TypeId>,
-    position: u32,
-    inside: &State,
-    after: &State,
-) -> Way
+pub fn placed(id: DeclId, mark: Option<TypeId>, position: u32, inside: &State, after: &State) -> Way
     ensures { result ≡ placed_way id mark position inside.now after.now }
 {
     Way {

@@ -3,16 +3,16 @@
 ghost use Rattle.std.specs.Prelude.{◌≡◌, IfOk};
 ghost use Rattle.std.specs.List.{filter_map};
 ghost use Rattle.vd_states.specs.declared.states.State.TheVariants.{Done};
-ghost use Rattle.vd_ways.specs.Sights.{sight_from, mark_of, parameters_of};
+ghost use Rattle.vd_sights.specs.Sights.{sight_from, mark_of, parameters_of};
 ghost use Rattle.vd_ways.specs.Ways.{symbol_name as symbol, valued_way as way_of_value, literal_way as way_of_literal, named_way as way_of_name, function_way, declaration_way, head_ways, value_after as behind_value};
 
-use crate::kinds::Kind;
 use crate::making::{chosen, naming, placed};
-use crate::roles::{Role, role_of};
-use crate::surroundings::Surroundings;
 use crate::values::position_in;
 use std::alloc::{AllocError, Global};
 use vd_declarations::{DeclId, TypeId};
+use vd_sights::Surroundings;
+use vd_sights::kinds::Kind;
+use vd_sights::roles::{Role, role_of};
 use vd_states::{Prefix, State, Want, Way};
 
 /// The name of an operator symbol.
@@ -64,13 +64,7 @@ fn literal_way(mark: Option<TypeId>, id: DeclId, goal: &Want, inside: &State) ->
 {
     let mark = mark?;
     let position = position_in(mark, id);
-    Some(placed(
-        id,
-        Some(mark),
-        position,
-        inside,
-        &value_after(mark, goal),
-    ))
+    Some(placed(id, Some(mark), position, inside, &value_after(mark, goal)))
 }
 
 /// A declaration that has no value.
@@ -84,65 +78,68 @@ fn named_way(id: DeclId, goal: &Want, inside: &State) -> Way
     naming(id, inside, &after)
 }
 
-impl<'a> Surroundings<'a> {
-    /// A function, which is called where it has no parameters.
-    fn function_way(&self, id: DeclId, goal: &Want, inside: &State) -> Option<Way>
-        ensures { result ≡ function_way (sight_from self.now) (parameters_of (sight_from self.now) id) id goal.now inside.now }
-    {
-        if self.parameters_of(id).is_empty() {
-            valued_way(self.mark_of(id), id, false, goal, inside)
-        } else {
-            Some(named_way(id, goal, inside))
-        }
+/// A function, which is called where it has no parameters.
+fn function_way(at: &Surroundings<'_>, id: DeclId, goal: &Want, inside: &State) -> Option<Way>
+    ensures { result ≡ function_way (sight_from at.now) (parameters_of (sight_from at.now) id) id goal.now inside.now }
+{
+    if at.parameters_of(id).is_empty() {
+        valued_way(at.mark_of(id), id, false, goal, inside)
+    } else {
+        Some(named_way(id, goal, inside))
     }
+}
 
-    /// A declaration that a name means.
-    pub fn declaration_way(&self, goal: &Want, inside: &State, id: DeclId) -> Option<Way>
-        ensures { result ≡ declaration_way (sight_from self.now) goal.now inside.now id }
-    {
-        match role_of(self.class_of(id)) {
-            Role::Unit | Role::Mark => Some(named_way(id, goal, inside)),
-            Role::Object => valued_way(self.mark_of(id), id, false, goal, inside),
-            Role::Signal => valued_way(self.mark_of(id), id, true, goal, inside),
-            Role::Literal => literal_way(self.mark_of(id), id, goal, inside),
-            Role::Function => self.function_way(id, goal, inside),
-            Role::Other => None,
-        }
+/// A declaration that a name means.
+pub fn declaration_way(
+    at: &Surroundings<'_>,
+    goal: &Want,
+    inside: &State,
+    id: DeclId,
+) -> Option<Way>
+    ensures { result ≡ declaration_way (sight_from at.now) goal.now inside.now id }
+{
+    match role_of(at.class_of(id)) {
+        Role::Unit | Role::Mark => Some(named_way(id, goal, inside)),
+        Role::Object => valued_way(at.mark_of(id), id, false, goal, inside),
+        Role::Signal => valued_way(at.mark_of(id), id, true, goal, inside),
+        Role::Literal => literal_way(at.mark_of(id), id, goal, inside),
+        Role::Function => function_way(at, id, goal, inside),
+        Role::Other => None,
     }
+}
 
-    /// The ways of what stands alone.
-    fn visible_ways(
-        &self,
-        alloc: Global,
-        goal: &Want,
-        name: &[u8],
-    ) -> Result<Vec<Way>, AllocError>
-        ensures { IfOk result (λ ways. ways.items ≡ filter_map (declaration_way (sight_from self.now) goal.now Done) ((sight_from self.now).visible name.now)) }
-    {
-        let visible = self.visible(alloc, name)?;
-        visible
-            .iter()
-            .filter_map(|id| self.declaration_way(goal, &State::Done, *id))
-            .collect(alloc)
-    }
+/// The ways of what stands alone.
+fn visible_ways(
+    at: &Surroundings<'_>,
+    alloc: Global,
+    goal: &Want,
+    name: &[u8],
+) -> Result<Vec<Way>, AllocError>
+    ensures { IfOk result (λ ways. ways.items ≡ filter_map (declaration_way (sight_from at.now) goal.now Done) ((sight_from at.now).visible name.now)) }
+{
+    let visible = at.visible(alloc, name)?;
+    visible
+        .iter()
+        .filter_map(|id| declaration_way(at, goal, &State::Done, *id))
+        .collect(alloc)
+}
 
-    /// The ways of the first piece of a name.
-    pub fn head_ways(
-        &self,
-        alloc: Global,
-        kind: Kind,
-        goal: &Want,
-        text: &[u8],
-    ) -> Result<Vec<Way>, AllocError>
-        ensures { IfOk result (λ ways. ways.items ≡ head_ways kind (sight_from self.now) goal.now text.now) }
-    {
-        match kind {
-            Kind::Identifier => self.visible_ways(alloc, goal, text),
-            Kind::Quoted => {
-                let name = symbol_name(alloc, text)?;
-                self.visible_ways(alloc, goal, &name)
-            }
-            _ => Ok(Vec::new(alloc)),
+/// The ways of the first piece of a name.
+pub fn head_ways(
+    at: &Surroundings<'_>,
+    alloc: Global,
+    kind: Kind,
+    goal: &Want,
+    text: &[u8],
+) -> Result<Vec<Way>, AllocError>
+    ensures { IfOk result (λ ways. ways.items ≡ head_ways kind (sight_from at.now) goal.now text.now) }
+{
+    match kind {
+        Kind::Identifier => visible_ways(at, alloc, goal, text),
+        Kind::Quoted => {
+            let name = symbol_name(alloc, text)?;
+            visible_ways(at, alloc, goal, &name)
         }
+        _ => Ok(Vec::new(alloc)),
     }
 }
