@@ -69,21 +69,21 @@ pub enum State {
     ElementAssociation {
         array: TypeId,
     },
-    /// Elements of a record aggregate, a positional one being that of this index from 0. What `others` stands for has the type, where
-    /// there is one.
+    /// Elements of a record aggregate, a positional one being that of this index from 0, and none where there is no index. What `others`
+    /// stands for has the type, where there is one.
     Fields {
-        record: TypeId,
-        index: u32,
+        mark: TypeId,
+        index: Option<u32>,
         others: Option<TypeId>,
     },
     /// What stands in an association of a record aggregate: choices, and a value of this type behind them.
     FieldAssociation {
-        record: TypeId,
+        mark: TypeId,
         value: TypeId,
     },
     /// Choices that name elements of a record type.
     FieldNames {
-        record: TypeId,
+        mark: TypeId,
     },
     /// The first piece of a name that is wanted so.
     Head {

@@ -1,0 +1,2 @@
+pub mod InterpretationLaws
+pub mod OverloadLemmas

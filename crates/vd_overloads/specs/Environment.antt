@@ -1,0 +1,66 @@
+-- What is known at a place of a design, by what is declared there. (IEEE 1076, visibility; conditions; aggregates)
+use Rattle.std.specs.Prelude.{ℕ, Bool, true, false, ◌&&◌, not, List, [], ◌∷◌, ◌++◌, codes, Option, Some, None, if◌then◌else◌}
+use Rattle.std.specs.List.{list_any}
+use Rattle.vd_bytes.specs.declared.places.Place.{Place}
+use Rattle.vd_forest.specs.Forest.{Forest}
+use Rattle.vd_forms.specs.declared.form.Form.{Form}
+use Rattle.vd_given.specs.declared.numbers.TheConstants.{STANDARD, STD_LOGIC_1164}
+use Rattle.vd_finding.specs.Finding.{Finder, first_found}
+use Rattle.vd_readings.specs.Readings.{Rules}
+use Rattle.vd_ways.specs.declared.kinds.Kind.TheVariants as kind
+use Rattle.vd_ways.specs.Kinds.{kind_of}
+use Rattle.vd_ways.specs.Lists.{simple_name, elements_named}
+use Rattle.vd_ways.specs.Sights.{Sight, Standpoint, sight_from, class_of}
+use Rattle.vd_ways.specs.Types.{all_types, is_discrete}
+use Rattle.vd_ways.specs.Ways.{ways, ends}
+use Rattle.vd_overloads.specs.Interpretations.{Scene}
+
+-- the language of expressions
+abbrev pub rules_at : Standpoint → Rules
+rules_at p = record { ways = ways (sight_from p); ends = ends (sight_from p) }
+
+-- the operators `??` of BIT, which stands in `std.standard`, and of STD_ULOGIC, which stands in `ieee.std_logic_1164`
+abbrev pub condition_symbol : List ℕ
+condition_symbol = codes "\"??\""
+
+abbrev pub condition_operators : Sight → List ℕ
+condition_operators s = s.selected STANDARD condition_symbol ++ s.selected STD_LOGIC_1164 condition_symbol
+
+-- ---- choices that name nothing: no declaration is visible by the name, and no record type has an element of this name
+
+abbrev pub is_some_list : List ℕ → Bool
+is_some_list [] = false
+is_some_list (k ∷ ks) = true
+
+abbrev pub names_element : Sight → List ℕ → Bool
+names_element s name = list_any (λ t. is_some_list (elements_named s t name)) (all_types s)
+
+abbrev pub names_nothing : Sight → Option (List ℕ) → Bool
+names_nothing s None = false
+names_nothing s (Some name) = not (is_some_list (s.visible name)) && not (names_element s name)
+
+abbrev pub are_choices : Form → Bool
+are_choices form = elim (kind_of form) [ kind.AssociationChoices ↦ true | _ ↦ false ]
+
+-- the place of a tree that is one, where it stands among choices
+abbrev pub unknown_finder : Sight → Finder Form Bool Place
+unknown_finder s = record {
+  answer = λ among form text place parts. if among && names_nothing s (simple_name form parts) then Some place else None;
+  down = λ among form text place parts. are_choices form;
+  along = λ among form text place parts. among;
+}
+
+abbrev pub first_unknown : Sight → Forest Form → Option Place
+first_unknown s tree = first_found (unknown_finder s) false tree
+
+-- ---- what is known there, beside the language
+
+abbrev pub scene_at : Standpoint → Scene
+scene_at p = record {
+  revision = p.revision;
+  types = all_types (sight_from p);
+  is_discrete = λ t. is_discrete (class_of (sight_from p) t);
+  operators = condition_operators (sight_from p);
+  refused = λ w tree. None;
+  unknown = first_unknown (sight_from p);
+}

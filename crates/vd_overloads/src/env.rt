@@ -1,0 +1,97 @@
+//! Places of a design, where expressions are resolved.
+
+ghost use Rattle.std.specs.Prelude.{◌≡◌, IfOk};
+ghost use Rattle.vd_ways.specs.Sights.{sight_from};
+ghost use Rattle.vd_overloads.specs.Environment.{condition_operators};
+
+use crate::setting::Setting;
+use crate::unknown::first_unknown;
+use crate::wanted::Wanted;
+use std::alloc::{AllocError, Global};
+use vd_bytes::{Place, Refused};
+use vd_declarations::{DeclId, TypeId};
+use vd_forest::{Cursor, Opened};
+use vd_forms::Form;
+use vd_given::numbers::{STANDARD, STD_LOGIC_1164};
+use vd_readings::Language;
+use vd_states::{State, Way};
+use vd_trees::Revision;
+use vd_ways::Surroundings;
+use vd_ways::types::is_discrete;
+
+/// A place of a design, with all that is declared so far.
+#[derive(Drop)]
+pub struct Env<'a> {
+    pub surroundings: Surroundings<'a>,
+}
+
+impl<'a> Language for Env<'a> {
+    ghost use Rattle.vd_overloads.specs.Environment.{rules_at};
+
+    ghost rules = { λ env. rules_at env.surroundings };
+
+    fn ends(&self, state: State) -> bool {
+        self.surroundings.ends_in(&state)
+    }
+
+    fn ways(
+        &self,
+        alloc: Global,
+        state: State,
+        node: &Opened<'_, Form>,
+    ) -> Result<Vec<Way>, AllocError> {
+        self.surroundings.ways_in(alloc, &state, node)
+    }
+}
+
+impl<'a> Setting for Env<'a> {
+    ghost use Rattle.vd_overloads.specs.Environment.{scene_at};
+
+    ghost scene = { λ env. scene_at env.surroundings };
+
+    fn revision(&self) -> Revision {
+        self.surroundings.revision()
+    }
+
+    fn types(&self) -> &[TypeId] {
+        self.surroundings.types()
+    }
+
+    fn is_discrete(&self, mark: TypeId) -> bool {
+        is_discrete(self.surroundings.class_of(DeclId::of(mark.number())))
+    }
+
+    fn operators(&self, alloc: Global) -> Result<Vec<DeclId>, AllocError> {
+        condition_operators(alloc, &self.surroundings)
+    }
+
+    fn refused(
+        &self,
+        _alloc: Global,
+        _wanted: &Wanted,
+        _tree: &Cursor<'_, Form>,
+    ) -> Result<Option<Refused>, AllocError> {
+        Ok(None)
+    }
+
+    fn unknown(
+        &self,
+        alloc: Global,
+        tree: &Cursor<'_, Form>,
+    ) -> Result<Option<Place>, AllocError> {
+        first_unknown(alloc, &self.surroundings, tree)
+    }
+}
+
+/// The operators `??` that can be implied.
+fn condition_operators(
+    alloc: Global,
+    place: &Surroundings<'_>,
+) -> Result<Vec<DeclId>, AllocError>
+    ensures { IfOk result (λ found. found.items ≡ condition_operators (sight_from place.now)) }
+{
+    let mut found = place.selected(alloc, DeclId::of(STANDARD), b"\"??\"")?;
+    let others = place.selected(alloc, DeclId::of(STD_LOGIC_1164), b"\"??\"")?;
+    found.extend_from_slice(others.as_slice())?;
+    Ok(found)
+}

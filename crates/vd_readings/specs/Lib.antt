@@ -1,0 +1,4 @@
+pub mod Found
+pub mod Readings
+pub mod Search
+pub mod Typed

@@ -1,0 +1,4 @@
+pub mod NameLemmas
+pub mod TypeLemmas
+pub mod CharacterLemmas
+pub mod FilterLemmas

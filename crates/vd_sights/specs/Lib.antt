@@ -1,0 +1,5 @@
+pub mod Sights
+pub mod Kinds
+pub mod Types
+pub mod Lists
+pub mod Brackets

@@ -1,0 +1,135 @@
+//! The surroundings of a place.
+
+ghost use Rattle.std.specs.Prelude.{◌≡◌, ◌<◌, IfOk, length};
+ghost use Rattle.vd_sights.specs.Sights.{sight_from, class_of, mark_of, name_of, parameters_of};
+ghost use Rattle.vd_sights.specs.Types.{all_types};
+
+use std::alloc::{AllocError, Global};
+use std::marker::Model;
+use vd_declarations::{Class, DeclId, RegionId, TypeId};
+use vd_regions::Regions;
+use vd_trees::Revision;
+
+/// What is known at a place of a design: the regions and declarations so far, the region of the place, and all types so far.
+#[derive(Drop)]
+pub struct Surroundings<'a> {
+    revision: Revision,
+    regions: &'a Regions,
+    region: RegionId,
+    types: &'a [TypeId],
+}
+
+impl<'a> Model for Surroundings<'a> {
+    ghost use Rattle.std.specs.Prelude.{◌≡◌};
+    ghost use Rattle.vd_sights.specs.Sights.{Standpoint, sight_from};
+    ghost use Rattle.vd_sights.specs.Types.{all_types};
+
+    ghost Value = { Standpoint };
+
+    ghost view = { λ a. record { revision = a.revision; scopes = a.regions.now; region = a.region } };
+
+    ghost invariant = { λ a. a.types.now ≡ all_types (sight_from (record { revision = a.revision; scopes = a.regions.now; region = a.region })) };
+}
+
+impl<'a> Surroundings<'a> {
+    /// Those of a place in a region. The types are all that are declared so far, in the order of their declarations.
+    pub fn of(
+        revision: Revision,
+        regions: &'a Regions,
+        region: RegionId,
+        types: &'a [TypeId],
+    ) -> Surroundings<'a>
+        requires { types.now ≡ all_types (sight_from (record { revision = revision; scopes = regions.now; region = region })) }
+        ensures { result ≡ record { revision = revision; scopes = regions.now; region = region } }
+    {
+        Surroundings {
+            revision,
+            regions,
+            region,
+            types,
+        }
+    }
+
+    /// The revision.
+    pub fn revision(&self) -> Revision
+        ensures { result ≡ self.now.revision }
+    {
+        self.revision
+    }
+
+    /// All types that are declared so far.
+    pub fn types(&self) -> &'a [TypeId]
+        ensures { result.now ≡ all_types (sight_from self.now) }
+    {
+        self.types
+    }
+
+    /// What kind of declaration it is.
+    pub fn class_of(&self, id: DeclId) -> Class
+        ensures { result ≡ class_of (sight_from self.now) id }
+    {
+        if !self.regions.is_declaration(id) {
+            return Class::Label;
+        }
+        self.regions.declaration(id).class
+    }
+
+    /// The type of a declaration.
+    pub fn mark_of(&self, id: DeclId) -> Option<TypeId>
+        ensures { result ≡ mark_of (sight_from self.now) id }
+    {
+        if !self.regions.is_declaration(id) {
+            return None;
+        }
+        self.regions.declaration(id).mark
+    }
+
+    /// The name of a declaration.
+    pub fn name_of(&self, id: DeclId) -> &'a [u8]
+        ensures { result.now ≡ name_of (sight_from self.now) id }
+    {
+        if !self.regions.is_declaration(id) {
+            return &[];
+        }
+        let declaration = self.regions.declaration(id);
+        declaration.name.as_slice()
+    }
+
+    /// The parameters of a function, or the elements of a record type.
+    pub fn parameters_of(&self, id: DeclId) -> &'a [DeclId]
+        ensures { result.now ≡ parameters_of (sight_from self.now) id }
+    {
+        if !self.regions.is_declaration(id) {
+            return &[];
+        }
+        let declaration = self.regions.declaration(id);
+        declaration.parameters.as_slice()
+    }
+
+    /// What a name means that stands alone.
+    pub fn visible(&self, alloc: Global, name: &[u8]) -> Result<Vec<DeclId>, AllocError>
+        ensures { IfOk result (λ found. found.items ≡ (sight_from self.now).visible name.now) }
+    {
+        let Ok(name) = str::from_utf8(name) else {
+            return Ok(Vec::new(alloc));
+        };
+        let found = self.regions.visible(alloc, self.region, name)?;
+        Ok(found)
+    }
+
+    /// What a name means behind a prefix that names a declaration.
+    pub fn selected(
+        &self,
+        alloc: Global,
+        prefix: DeclId,
+        name: &[u8],
+    ) -> Result<Vec<DeclId>, AllocError>
+        ensures { IfOk result (λ found. found.items ≡ (sight_from self.now).selected prefix name.now) }
+    {
+        let Ok(name) = str::from_utf8(name) else {
+            return Ok(Vec::new(alloc));
+        };
+        let found = self.regions.selected(alloc, self.region, prefix, name)?;
+        Ok(found)
+    }
+}
