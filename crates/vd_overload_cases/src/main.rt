@@ -1,8 +1,10 @@
 //! Carries out steps that declare names, and asks what overload resolution makes of expressions. The words are files of steps.
 #![tactic(auto)]
 
+mod asking;
 mod declaring;
 mod steps;
+mod texts;
 mod world;
 
 use crate::steps::run_steps;

@@ -1,13 +1,13 @@
 //! Steps. A line is a step, or a question, behind `?`: what is wanted, a colon and an expression; the line behind a question has the
-//! outcome that it must have, behind `=>`. `--` begins a comment.
+//! outcome that it must have, behind `=>`. Behind `!` the text of a question is read, and nothing is asked. `--` begins a comment.
 //!
 //!     given REVISION | package NAME | end | region | inside | use PATH
 //!     enumeration NAME LITERAL .. | array NAME INDEX ELEMENT | record NAME ELEMENT:MARK .. | subtype NAME MARK
 //!     constant NAME MARK | signal NAME MARK | function NAME RESULT PARAMETER:MARK ..
 
+use crate::asking::outcome;
 use crate::declaring::declare;
 use crate::world::{World, new_world};
-use anyhow::bail;
 use std::alloc::Global;
 use vd_trees::Revision;
 
@@ -34,13 +34,25 @@ fn step(alloc: Global, world: &mut World, words: &[&str]) -> anyhow::Result<()> 
 /// Carries out the steps of a file, and says which outcomes are others than the lines have.
 pub fn run_steps(rt: HostRuntime, name: &str, text: &str) -> anyhow::Result<()> {
     let mut world = new_world(rt.alloc(), Revision::V2019)?;
-    for line in text.lines() {
-        if line.starts_with("--") || line.is_empty() || line.starts_with("=>") || line.starts_with('?') {
-            continue;
+    let mut last = String::new(rt.alloc());
+    let mut count: usize = 0;
+    let mut wrong: usize = 0;
+    for (number, line) in text.lines().enumerate() {
+        if let Some(wanted) = line.strip_prefix("=> ") {
+            count = count.saturating_add(1);
+            if wanted != last.as_str() {
+                println!(rt; "{name}:{number}: {last}")?;
+                wrong = wrong.saturating_add(1);
+            }
+        } else if let Some(question) = line.strip_prefix("? ") {
+            last = outcome(rt.alloc(), &world, question, true)?;
+        } else if let Some(question) = line.strip_prefix("! ") {
+            last = outcome(rt.alloc(), &world, question, false)?;
+        } else if !line.starts_with("--") && !line.is_empty() {
+            let words: Vec<&str> = line.split_whitespace().collect(rt.alloc())?;
+            step(rt.alloc(), &mut world, &words)?;
         }
-        let words: Vec<&str> = line.split_whitespace().collect(rt.alloc())?;
-        step(rt.alloc(), &mut world, &words)?;
     }
-    println!(rt; "{name}")?;
+    println!(rt; "{name}: {count} outcomes, {wrong} others")?;
     Ok(())
 }
