@@ -5,6 +5,7 @@ use vd_forest::Cursor;
 use vd_forms::Form;
 
 /// A text round an expression: what stands in front of it and behind it, the form that it is a part of, and which part it is.
+#[derive(Drop)]
 pub struct Frame {
     pub front: &'static str,
     pub back: &'static str,

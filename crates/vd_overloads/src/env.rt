@@ -1,7 +1,7 @@
 //! Places of a design, where expressions are resolved.
 
 ghost use Rattle.std.specs.Prelude.{◌≡◌, IfOk};
-ghost use Rattle.vd_ways.specs.Sights.{sight_from};
+ghost use Rattle.vd_sights.specs.Sights.{sight_from};
 ghost use Rattle.vd_overloads.specs.Environment.{condition_operators};
 
 use crate::setting::Setting;
@@ -16,8 +16,9 @@ use vd_given::numbers::{STANDARD, STD_LOGIC_1164};
 use vd_readings::Language;
 use vd_states::{State, Way};
 use vd_trees::Revision;
-use vd_ways::Surroundings;
-use vd_ways::types::is_discrete;
+use vd_sights::Surroundings;
+use vd_sights::types::is_discrete;
+use vd_ways::{ends_in, ways_in};
 
 /// A place of a design, with all that is declared so far.
 #[derive(Drop)]
@@ -31,7 +32,7 @@ impl<'a> Language for Env<'a> {
     ghost rules = { λ env. rules_at env.surroundings };
 
     fn ends(&self, state: State) -> bool {
-        self.surroundings.ends_in(&state)
+        ends_in(&self.surroundings, &state)
     }
 
     fn ways(
@@ -40,7 +41,7 @@ impl<'a> Language for Env<'a> {
         state: State,
         node: &Opened<'_, Form>,
     ) -> Result<Vec<Way>, AllocError> {
-        self.surroundings.ways_in(alloc, &state, node)
+        ways_in(&self.surroundings, alloc, &state, node)
     }
 }
 
