@@ -1,2 +1,3 @@
 pub mod InterpretationLaws
 pub mod OverloadLemmas
+pub mod TypeLemmas

@@ -7,11 +7,11 @@ use Rattle.vd_forms.specs.declared.form.Form.{Form}
 use Rattle.vd_given.specs.declared.numbers.TheConstants.{STANDARD, STD_LOGIC_1164}
 use Rattle.vd_finding.specs.Finding.{Finder, first_found}
 use Rattle.vd_readings.specs.Readings.{Rules}
-use Rattle.vd_ways.specs.declared.kinds.Kind.TheVariants as kind
-use Rattle.vd_ways.specs.Kinds.{kind_of}
-use Rattle.vd_ways.specs.Lists.{simple_name, elements_named}
-use Rattle.vd_ways.specs.Sights.{Sight, Standpoint, sight_from, class_of}
-use Rattle.vd_ways.specs.Types.{all_types, is_discrete}
+use Rattle.vd_sights.specs.declared.kinds.Kind.TheVariants as kind
+use Rattle.vd_sights.specs.Kinds.{kind_of}
+use Rattle.vd_sights.specs.Lists.{simple_name, elements_named}
+use Rattle.vd_sights.specs.Sights.{Sight, Standpoint, sight_from, class_of}
+use Rattle.vd_sights.specs.Types.{all_types, is_discrete}
 use Rattle.vd_ways.specs.Ways.{ways, ends}
 use Rattle.vd_overloads.specs.Interpretations.{Scene}
 

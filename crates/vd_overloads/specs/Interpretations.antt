@@ -4,7 +4,7 @@ use Rattle.std.specs.Prelude.{◌≡◌, ◌⊎◌, ℕ, ◌≤◌, Bool, List, 
 use Rattle.std.specs.List.{filter, flat_map}
 use Rattle.vd_bytes.specs.declared.answers.Refused.{Refused}
 use Rattle.vd_bytes.specs.declared.places.Place.{Place}
-use Rattle.vd_forest.specs.Forest.{Forest, nothing, more, place_of, no_place}
+use Rattle.vd_forest.specs.Forest.{Forest, nothing, more, with_next, no_place}
 use Rattle.vd_forms.specs.declared.form.Form.{Form}
 use Rattle.vd_forms.specs.declared.form.Form.TheVariants as form
 use Rattle.vd_given.specs.declared.numbers.TheConstants.{BOOLEAN}
@@ -48,6 +48,10 @@ states_of s wanted.AnyDiscreteRange = map discrete_range_of (filter s.is_discret
 states_of s (wanted.Choice t) = state.Only (want.Choice t) ∷ []
 
 -- ---- the interpretations
+
+-- an expression: the first tree of a forest, with nothing behind it
+abbrev pub alone : Forest Form → Forest Form
+alone tree = with_next tree nothing
 
 -- the place of the first token
 abbrev pub first_place : Forest Form → Place

@@ -1,7 +1,7 @@
 //! Places of a design, where expressions are resolved.
 
 ghost use Rattle.std.specs.Prelude.{◌≡◌, IfOk};
-ghost use Rattle.vd_ways.specs.Sights.{sight_from};
+ghost use Rattle.vd_sights.specs.Sights.{sight_from};
 ghost use Rattle.vd_overloads.specs.Environment.{condition_operators};
 
 use crate::setting::Setting;
@@ -14,10 +14,11 @@ use vd_forest::{Cursor, Opened};
 use vd_forms::Form;
 use vd_given::numbers::{STANDARD, STD_LOGIC_1164};
 use vd_readings::Language;
+use vd_sights::Surroundings;
+use vd_sights::types::is_discrete;
 use vd_states::{State, Way};
 use vd_trees::Revision;
-use vd_ways::Surroundings;
-use vd_ways::types::is_discrete;
+use vd_ways::{ends_in, ways_in};
 
 /// A place of a design, with all that is declared so far.
 #[derive(Drop)]
@@ -31,7 +32,7 @@ impl<'a> Language for Env<'a> {
     ghost rules = { λ env. rules_at env.surroundings };
 
     fn ends(&self, state: State) -> bool {
-        self.surroundings.ends_in(&state)
+        ends_in(&self.surroundings, &state)
     }
 
     fn ways(
@@ -40,7 +41,7 @@ impl<'a> Language for Env<'a> {
         state: State,
         node: &Opened<'_, Form>,
     ) -> Result<Vec<Way>, AllocError> {
-        self.surroundings.ways_in(alloc, &state, node)
+        ways_in(&self.surroundings, alloc, &state, node)
     }
 }
 
@@ -74,20 +75,13 @@ impl<'a> Setting for Env<'a> {
         Ok(None)
     }
 
-    fn unknown(
-        &self,
-        alloc: Global,
-        tree: &Cursor<'_, Form>,
-    ) -> Result<Option<Place>, AllocError> {
+    fn unknown(&self, alloc: Global, tree: &Cursor<'_, Form>) -> Result<Option<Place>, AllocError> {
         first_unknown(alloc, &self.surroundings, tree)
     }
 }
 
 /// The operators `??` that can be implied.
-fn condition_operators(
-    alloc: Global,
-    place: &Surroundings<'_>,
-) -> Result<Vec<DeclId>, AllocError>
+fn condition_operators(alloc: Global, place: &Surroundings<'_>) -> Result<Vec<DeclId>, AllocError>
     ensures { IfOk result (λ found. found.items ≡ condition_operators (sight_from place.now)) }
 {
     let mut found = place.selected(alloc, DeclId::of(STANDARD), b"\"??\"")?;

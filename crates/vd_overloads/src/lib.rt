@@ -5,6 +5,7 @@ pub mod env;
 pub mod laws;
 pub mod resolving;
 pub mod setting;
+pub mod types;
 mod unknown;
 pub mod wanted;
 
@@ -12,4 +13,5 @@ pub use env::Env;
 pub use laws::{interpretations_are_typed, interpretations_compared};
 pub use resolving::resolve_expr;
 pub use setting::Setting;
+pub use types::types_so_far;
 pub use wanted::Wanted;

@@ -3,9 +3,9 @@
 ghost use Rattle.std.specs.Prelude.{◌≡◌, ◌≤◌, [], true, false, IfOk, Err, length, map};
 ghost use Rattle.std.specs.List.{filter, flat_map};
 ghost use Rattle.vd_bytes.specs.declared.answers.Refused.{Refused};
-ghost use Rattle.vd_forest.specs.Store.{Extends};
+ghost use Rattle.vd_forest.specs.Store.{Holds, Extends};
 ghost use Rattle.vd_readings.specs.Found.{HoldsOnly, IsFound};
-ghost use Rattle.vd_overloads.specs.Interpretations.{value_of, discrete_range_of, states_of, first_place, implied_by, implied, interpretations, refusal, IsNotOne};
+ghost use Rattle.vd_overloads.specs.Interpretations.{alone, value_of, discrete_range_of, states_of, first_place, implied_by, implied, interpretations, refusal, IsNotOne};
 
 use crate::setting::Setting;
 use crate::wanted::Wanted;
@@ -20,8 +20,47 @@ use vd_resolved::Resolved;
 use vd_states::{State, Want};
 use vd_trees::Revision;
 
-/// The one interpretation of an expression, made in a store, or the rule that is broken.
+/// The one interpretation of the first tree of a forest, made in a store, or the rule that is broken.
 pub fn resolve_expr<S: Setting>(
+    alloc: Global,
+    setting: &S,
+    tree: &Cursor<'_, Form>,
+    wanted: &Wanted,
+    out: &mut Store<Resolved>,
+) -> Result<u32, Refusal>
+    ensures only { IfOk result (λ number. HoldsOnly out.new number (interpretations (S.rules setting.now) (S.scene setting.now) wanted.now (alone tree.now))) }
+    ensures not_one { (r : Refused) → result ≡ Err (Refusal.Refused r)
+        → IsNotOne (interpretations (S.rules setting.now) (S.scene setting.now) wanted.now (alone tree.now)) }
+    ensures refused { (r : Refused) → result ≡ Err (Refusal.Refused r)
+        → r ≡ refusal ((S.scene setting.now).refused wanted.now (alone tree.now)) ((S.scene setting.now).unknown (alone tree.now)) (first_place (alone tree.now))
+        (interpretations (S.rules setting.now) (S.scene setting.now) wanted.now (alone tree.now)) }
+    ensures extends { Extends out.old out.new }
+{
+    let mut single = Store::new(alloc);
+    let number = match alone(tree, &mut single) {
+        Ok(number) => number,
+        Err(_) => return Err(Refusal::Memory),
+    };
+    resolve_alone(alloc, setting, &single.cursor(number), wanted, out)
+}
+
+/// The first tree of a forest, in a store where nothing is behind it.
+#[tactic(auto, using(vd_forest::proofs::StoreLemmas::growing))]
+fn alone(tree: &Cursor<'_, Form>, single: &mut Store<Form>) -> Result<u32, AllocError>
+    ensures { IfOk result (λ number. Holds single.new number (alone tree.now)) }
+{
+    match tree.open() {
+        None => Ok(0),
+        Some(first) => {
+            let parts = single.copy(&first.parts)?;
+            let made = single.add(first.form, first.text, first.place, parts, 0)?;
+            Ok(made)
+        }
+    }
+}
+
+/// The one interpretation of an expression, or the rule that is broken.
+fn resolve_alone<S: Setting>(
     alloc: Global,
     setting: &S,
     tree: &Cursor<'_, Form>,
@@ -33,7 +72,7 @@ pub fn resolve_expr<S: Setting>(
         → IsNotOne (interpretations (S.rules setting.now) (S.scene setting.now) wanted.now tree.now) }
     ensures refused { (r : Refused) → result ≡ Err (Refusal.Refused r)
         → r ≡ refusal ((S.scene setting.now).refused wanted.now tree.now) ((S.scene setting.now).unknown tree.now) (first_place tree.now)
-            (interpretations (S.rules setting.now) (S.scene setting.now) wanted.now tree.now) }
+        (interpretations (S.rules setting.now) (S.scene setting.now) wanted.now tree.now) }
     ensures extends { Extends out.old out.new }
 {
     let found = match interpret(alloc, setting, tree, wanted, out) {

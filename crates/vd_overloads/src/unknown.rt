@@ -2,7 +2,7 @@
 
 ghost use Rattle.std.specs.Prelude.{◌≡◌, IfOk, Some};
 ghost use Rattle.std.specs.Option.{option_copied};
-ghost use Rattle.vd_ways.specs.Sights.{sight_from};
+ghost use Rattle.vd_sights.specs.Sights.{sight_from};
 ghost use Rattle.vd_overloads.specs.Environment.{names_element, names_nothing, are_choices, first_unknown};
 
 use std::alloc::{AllocError, Global};
@@ -10,9 +10,9 @@ use vd_bytes::Place;
 use vd_finding::{Finding, find_first};
 use vd_forest::{Cursor, Opened};
 use vd_forms::Form;
-use vd_ways::Surroundings;
-use vd_ways::kinds::{Kind, kind_of};
-use vd_ways::lists::simple_name;
+use vd_sights::Surroundings;
+use vd_sights::kinds::{Kind, kind_of};
+use vd_sights::lists::simple_name;
 
 /// Looks for choices that name nothing at a place.
 #[derive(Drop)]
@@ -21,7 +21,7 @@ struct Choices<'a> {
 }
 
 impl<'a> Finding<Form, bool, Place> for Choices<'a> {
-    ghost use Rattle.vd_ways.specs.Sights.{sight_from};
+    ghost use Rattle.vd_sights.specs.Sights.{sight_from};
     ghost use Rattle.vd_overloads.specs.Environment.{unknown_finder};
 
     ghost finder = { λ choices. unknown_finder (sight_from choices.place.now) };
@@ -94,11 +94,7 @@ fn names_nothing(
 }
 
 /// Whether a record type has an element of this name.
-fn names_element(
-    alloc: Global,
-    place: &Surroundings<'_>,
-    name: &[u8],
-) -> Result<bool, AllocError>
+fn names_element(alloc: Global, place: &Surroundings<'_>, name: &[u8]) -> Result<bool, AllocError>
     ensures { IfOk result (λ found. found ≡ names_element (sight_from place.now) name.now) }
 {
     for mark in place.types() {
