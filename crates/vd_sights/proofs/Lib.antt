@@ -2,3 +2,4 @@ pub mod NameLemmas
 pub mod TypeLemmas
 pub mod CharacterLemmas
 pub mod FilterLemmas
+pub mod TypeListLemmas

@@ -3,3 +3,4 @@ pub mod Kinds
 pub mod Types
 pub mod Lists
 pub mod Brackets
+pub mod TypeLists

@@ -9,6 +9,7 @@ pub mod kinds;
 pub mod lists;
 pub mod roles;
 pub mod surroundings;
+pub mod type_lists;
 pub mod types;
 
 pub use attributes::Attribute;

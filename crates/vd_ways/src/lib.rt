@@ -4,9 +4,9 @@
 mod attributing;
 mod elements;
 mod making;
-mod names;
+pub mod names;
 pub mod setting;
-mod suffixes;
+pub mod suffixes;
 mod values;
 mod wanted;
 

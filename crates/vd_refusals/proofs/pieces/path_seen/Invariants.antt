@@ -1,0 +1,11 @@
+use Rattle.std.proofs.Common.{◌≡◌}
+use Rattle.vd_sights.specs.Sights.{sight_from}
+use Rattle.vd_refusals.specs.Seen.{has_range_piece, path_from, path_seen, pieces_seen, name_seen}
+use Rattle.vd_forest.specs.Forest.{size}
+use Rattle.vd_refusals.proofs.pieces.path_seen.Given as goal
+
+abbrev pub invariant-loop-first : goal.invariant-loop-first
+invariant-loop-first l = path_from (sight_from l.at) l.seen l.rest ≡ path_seen (sight_from l.at) l.fn.pieces
+
+abbrev pub decreases-loop-first : goal.decreases-loop-first
+decreases-loop-first l = size l.rest
