@@ -8,7 +8,7 @@ use vd_declarations::DeclId;
 use vd_forest::{Cursor, Store};
 use vd_overloads::{Env, Wanted, resolve_expr};
 use vd_resolved::Resolved;
-use vd_ways::Surroundings;
+use vd_sights::Surroundings;
 
 /// The name of a declaration.
 fn name_of<'a>(world: &'a World, number: u32) -> &'a str {

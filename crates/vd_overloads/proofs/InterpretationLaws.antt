@@ -1,18 +1,16 @@
 -- Interpretations are typed trees, and go with the language.
-use Rattle.std.proofs.Common.{◌≡◌, ◌⊎◌, inl, inr, ℕ, List, [], ◌∷◌, map, refl, sym, ap, subst, ◌∙◌}
+use Rattle.std.proofs.Common.{◌≡◌, ◌⊎◌, inl, inr, List, [], ◌∷◌, map, refl, sym, ap, ◌∙◌}
 use Rattle.std.specs.List.{Contains, flat_map}
 use Rattle.vd_forest.specs.Forest.{Forest}
 use Rattle.vd_forms.specs.declared.form.Form.{Form}
 use Rattle.vd_resolved.specs.declared.node.Resolved.{Resolved}
-use Rattle.vd_states.specs.declared.states.State.{State}
 use Rattle.vd_states.specs.declared.states.State.TheVariants as state
 use Rattle.vd_trees.specs.declared.revision.Revision.{Revision}
 use Rattle.vd_trees.specs.declared.revision.Revision.TheVariants.{V2019, V1993}
 use Rattle.vd_readings.specs.Readings.{Rules, readings, readings_in}
-use Rattle.vd_readings.specs.Typed.{IsReading, Agree}
-use Rattle.vd_readings.proofs.MemberLemmas.{no_member, cons_here, in_flat_map, from_flat_map, flat_map_same, in_map, from_map}
+use Rattle.vd_readings.proofs.MemberLemmas.{no_member, in_flat_map, from_flat_map, flat_map_same, from_map}
 use Rattle.vd_readings.proofs.ReadingLaws.{readings_typed, typed_readings, agreeing_alike}
-use Rattle.vd_overloads.specs.Interpretations.{Scene, states_of, first_place, under_operator, or_else, implied_by, implied, interpretations}
+use Rattle.vd_overloads.specs.Interpretations.{Scene, states_of, first_place, under_operator, or_else, implied_by, implied}
 use Rattle.vd_overloads.specs.Laws.{IsWanted, IsImplied, InterpretationsAreTyped, WantedAreInterpretations, AgreeOn, AgreeingInterpretAlike}
 use Rattle.vd_overloads.specs.declared.wanted.Wanted.{Wanted}
 use Rattle.vd_overloads.specs.declared.wanted.Wanted.TheVariants.{OfType, Condition, Discrete, Free, Range, DiscreteRange, AnyDiscreteRange, Choice}
@@ -40,7 +38,10 @@ module _ (rules : Rules) (s : Scene) (tree : Forest Form) (reading : Forest Reso
       let by = from_flat_map (implied_by rules s tree) s.operators reading c in
       let over = from_map (under_operator (first_place tree) by.0) (readings rules tree (state.Arguments by.0 0)) reading by.2 in
       record {
-        operator = by.0; among = by.1; operand = over.0; under = sym over.2;
+        operator = by.0;
+        among = by.1;
+        operand = over.0;
+        under = sym over.2;
         is = readings_typed rules tree (state.Arguments by.0 0) over.0 over.1;
       }
 
@@ -52,8 +53,9 @@ module _ (rules : Rules) (s : Scene) (tree : Forest Form) (reading : Forest Reso
 pub interpretations_typed : InterpretationsAreTyped
 interpretations_typed rules s Condition tree reading c =
     elim (from_else (readings_in rules tree (states_of s Condition)) (implied rules s tree) reading c) [
-        inl first ↦ inl (are_wanted rules s Condition tree reading first)
-      | inr second ↦ inr (by_revision rules s tree reading s.revision second) ]
+      | inl first ↦ inl (are_wanted rules s Condition tree reading first)
+      | inr second ↦ inr (by_revision rules s tree reading s.revision second)
+    ]
 interpretations_typed rules s (OfType t) tree reading c = inl (are_wanted rules s (OfType t) tree reading c)
 interpretations_typed rules s Discrete tree reading c = inl (are_wanted rules s Discrete tree reading c)
 interpretations_typed rules s Free tree reading c = inl (are_wanted rules s Free tree reading c)

@@ -1,3 +1,2 @@
 pub mod InterpretationLaws
 pub mod OverloadLemmas
-pub mod TypeLemmas

@@ -1,12 +1,11 @@
 -- What is found of interpretations. No name has a dash, so that a caller can name each in `#[tactic(auto, using(..))]`.
-use Rattle.std.proofs.Common.{◌≡◌, ◌≤◌, ◌⊎◌, inl, inr, ℕ, List, [], ◌∷◌, ◌++◌, map, length, refl, sym, ap, subst, ◌∙◌, arith, append-nil}
+use Rattle.std.proofs.Common.{◌≡◌, ◌≤◌, ℕ, List, [], ◌∷◌, ◌++◌, map, length, refl, sym, ap, subst, ◌∙◌, arith, append-nil}
 use Rattle.std.proofs.lemmas.List.{length-map}
-use Rattle.vd_forest.specs.Forest.{Forest, nothing, more}
+use Rattle.vd_forest.specs.Forest.{Forest}
 use Rattle.vd_forest.specs.Store.{at, Holds}
 use Rattle.vd_resolved.specs.declared.node.Resolved.{Resolved}
 use Rattle.vd_readings.specs.Found.{HoldsOnly, IsFound}
 use Rattle.vd_readings.specs.declared.found.Found.{Found}
-use Rattle.vd_readings.specs.declared.found.Found.TheVariants.{Nothing, Only, Several}
 use Rattle.vd_overloads.specs.Interpretations.{or_else}
 
 -- ---- the one list, or the other where it is empty

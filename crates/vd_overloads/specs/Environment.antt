@@ -4,9 +4,14 @@ use Rattle.std.specs.List.{list_any}
 use Rattle.vd_bytes.specs.declared.places.Place.{Place}
 use Rattle.vd_forest.specs.Forest.{Forest}
 use Rattle.vd_forms.specs.declared.form.Form.{Form}
-use Rattle.vd_given.specs.declared.numbers.TheConstants.{STANDARD, STD_LOGIC_1164}
+use Rattle.vd_given.specs.declared.numbers.TheConstants.{BOOLEAN, STANDARD, STD_LOGIC_1164}
 use Rattle.vd_finding.specs.Finding.{Finder, first_found}
 use Rattle.vd_readings.specs.Readings.{Rules}
+use Rattle.vd_refusals.specs.Refusals.{first_refusal}
+use Rattle.vd_states.specs.declared.states.Want.{Want}
+use Rattle.vd_states.specs.declared.states.Want.TheVariants as want
+use Rattle.vd_overloads.specs.declared.wanted.Wanted.{Wanted}
+use Rattle.vd_overloads.specs.declared.wanted.Wanted.TheVariants as wanted
 use Rattle.vd_sights.specs.declared.kinds.Kind.TheVariants as kind
 use Rattle.vd_sights.specs.Kinds.{kind_of}
 use Rattle.vd_sights.specs.Lists.{simple_name, elements_named}
@@ -55,12 +60,23 @@ first_unknown s tree = first_found (unknown_finder s) false tree
 
 -- ---- what is known there, beside the language
 
+-- As what a name is wanted. Where any type will do, the one that is named here doesn't count.
+abbrev pub want_of : Wanted → Want
+want_of (wanted.OfType t) = want.Value t
+want_of wanted.Condition = want.Value BOOLEAN
+want_of wanted.Discrete = want.Value BOOLEAN
+want_of wanted.Free = want.Value BOOLEAN
+want_of (wanted.Range t) = want.Range t
+want_of (wanted.DiscreteRange t) = want.DiscreteRange t
+want_of wanted.AnyDiscreteRange = want.DiscreteRange BOOLEAN
+want_of (wanted.Choice t) = want.Choice t
+
 abbrev pub scene_at : Standpoint → Scene
 scene_at p = record {
   revision = p.revision;
   types = all_types (sight_from p);
   is_discrete = λ t. is_discrete (class_of (sight_from p) t);
   operators = condition_operators (sight_from p);
-  refused = λ w tree. None;
+  refused = λ w tree. first_refusal (sight_from p) (want_of w) tree;
   unknown = first_unknown (sight_from p);
 }

@@ -1,12 +1,12 @@
 -- Laws of interpretations.
-use Rattle.std.specs.Prelude.{◌≡◌, ◌⊎◌, ℕ, List, [], Option}
+use Rattle.std.specs.Prelude.{◌≡◌, ◌⊎◌, ℕ}
 use Rattle.std.specs.List.{Contains}
 use Rattle.vd_forest.specs.Forest.{Forest}
 use Rattle.vd_forms.specs.declared.form.Form.{Form}
 use Rattle.vd_resolved.specs.declared.node.Resolved.{Resolved}
 use Rattle.vd_states.specs.declared.states.State.{State}
 use Rattle.vd_states.specs.declared.states.State.TheVariants as state
-use Rattle.vd_readings.specs.Readings.{Rules, readings_in}
+use Rattle.vd_readings.specs.Readings.{Rules}
 use Rattle.vd_readings.specs.Typed.{IsReading, Agree}
 use Rattle.vd_overloads.specs.Interpretations.{Scene, states_of, first_place, under_operator, interpretations}
 use Rattle.vd_overloads.specs.declared.wanted.Wanted.{Wanted}

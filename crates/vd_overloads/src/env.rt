@@ -2,7 +2,7 @@
 
 ghost use Rattle.std.specs.Prelude.{◌≡◌, IfOk};
 ghost use Rattle.vd_sights.specs.Sights.{sight_from};
-ghost use Rattle.vd_overloads.specs.Environment.{condition_operators};
+ghost use Rattle.vd_overloads.specs.Environment.{want_of, condition_operators};
 
 use crate::setting::Setting;
 use crate::unknown::first_unknown;
@@ -12,12 +12,13 @@ use vd_bytes::{Place, Refused};
 use vd_declarations::{DeclId, TypeId};
 use vd_forest::{Cursor, Opened};
 use vd_forms::Form;
-use vd_given::numbers::{STANDARD, STD_LOGIC_1164};
+use vd_given::numbers::{BOOLEAN, STANDARD, STD_LOGIC_1164};
 use vd_readings::Language;
-use vd_states::{State, Way};
-use vd_trees::Revision;
+use vd_refusals::first_refusal;
 use vd_sights::Surroundings;
 use vd_sights::types::is_discrete;
+use vd_states::{State, Want, Way};
+use vd_trees::Revision;
 use vd_ways::{ends_in, ways_in};
 
 /// A place of a design, with all that is declared so far.
@@ -68,27 +69,34 @@ impl<'a> Setting for Env<'a> {
 
     fn refused(
         &self,
-        _alloc: Global,
-        _wanted: &Wanted,
-        _tree: &Cursor<'_, Form>,
+        alloc: Global,
+        wanted: &Wanted,
+        tree: &Cursor<'_, Form>,
     ) -> Result<Option<Refused>, AllocError> {
-        Ok(None)
+        first_refusal(&self.surroundings, alloc, &want_of(wanted), tree)
     }
 
-    fn unknown(
-        &self,
-        alloc: Global,
-        tree: &Cursor<'_, Form>,
-    ) -> Result<Option<Place>, AllocError> {
+    fn unknown(&self, alloc: Global, tree: &Cursor<'_, Form>) -> Result<Option<Place>, AllocError> {
         first_unknown(alloc, &self.surroundings, tree)
     }
 }
 
+/// As what a name is wanted.
+fn want_of(wanted: &Wanted) -> Want
+    ensures { result ≡ want_of wanted.now }
+{
+    match wanted {
+        Wanted::OfType(mark) => Want::Value(*mark),
+        Wanted::Condition | Wanted::Discrete | Wanted::Free => Want::Value(TypeId::of(BOOLEAN)),
+        Wanted::Range(mark) => Want::Range(*mark),
+        Wanted::DiscreteRange(mark) => Want::DiscreteRange(*mark),
+        Wanted::AnyDiscreteRange => Want::DiscreteRange(TypeId::of(BOOLEAN)),
+        Wanted::Choice(mark) => Want::Choice(*mark),
+    }
+}
+
 /// The operators `??` that can be implied.
-fn condition_operators(
-    alloc: Global,
-    place: &Surroundings<'_>,
-) -> Result<Vec<DeclId>, AllocError>
+fn condition_operators(alloc: Global, place: &Surroundings<'_>) -> Result<Vec<DeclId>, AllocError>
     ensures { IfOk result (λ found. found.items ≡ condition_operators (sight_from place.now)) }
 {
     let mut found = place.selected(alloc, DeclId::of(STANDARD), b"\"??\"")?;

@@ -5,7 +5,6 @@ pub mod env;
 pub mod laws;
 pub mod resolving;
 pub mod setting;
-pub mod types;
 mod unknown;
 pub mod wanted;
 
@@ -13,5 +12,4 @@ pub use env::Env;
 pub use laws::{interpretations_are_typed, interpretations_compared};
 pub use resolving::resolve_expr;
 pub use setting::Setting;
-pub use types::types_so_far;
 pub use wanted::Wanted;

@@ -33,7 +33,7 @@ pub fn resolve_expr<S: Setting>(
         → IsNotOne (interpretations (S.rules setting.now) (S.scene setting.now) wanted.now (alone tree.now)) }
     ensures refused { (r : Refused) → result ≡ Err (Refusal.Refused r)
         → r ≡ refusal ((S.scene setting.now).refused wanted.now (alone tree.now)) ((S.scene setting.now).unknown (alone tree.now)) (first_place (alone tree.now))
-            (interpretations (S.rules setting.now) (S.scene setting.now) wanted.now (alone tree.now)) }
+        (interpretations (S.rules setting.now) (S.scene setting.now) wanted.now (alone tree.now)) }
     ensures extends { Extends out.old out.new }
 {
     let mut single = Store::new(alloc);
@@ -72,7 +72,7 @@ fn resolve_alone<S: Setting>(
         → IsNotOne (interpretations (S.rules setting.now) (S.scene setting.now) wanted.now tree.now) }
     ensures refused { (r : Refused) → result ≡ Err (Refusal.Refused r)
         → r ≡ refusal ((S.scene setting.now).refused wanted.now tree.now) ((S.scene setting.now).unknown tree.now) (first_place tree.now)
-            (interpretations (S.rules setting.now) (S.scene setting.now) wanted.now tree.now) }
+        (interpretations (S.rules setting.now) (S.scene setting.now) wanted.now tree.now) }
     ensures extends { Extends out.old out.new }
 {
     let found = match interpret(alloc, setting, tree, wanted, out) {

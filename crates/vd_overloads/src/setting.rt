@@ -42,10 +42,6 @@ pub trait Setting: Language {
         ensures { IfOk result (λ found. found ≡ (scene self.now).refused wanted.now tree.now) };
 
     /// The place of the first choice of an expression that names nothing.
-    fn unknown(
-        &self,
-        alloc: Global,
-        tree: &Cursor<'_, Form>,
-    ) -> Result<Option<Place>, AllocError>
+    fn unknown(&self, alloc: Global, tree: &Cursor<'_, Form>) -> Result<Option<Place>, AllocError>
         ensures { IfOk result (λ found. found ≡ (scene self.now).unknown tree.now) };
 }

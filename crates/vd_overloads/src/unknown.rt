@@ -94,11 +94,7 @@ fn names_nothing(
 }
 
 /// Whether a record type has an element of this name.
-fn names_element(
-    alloc: Global,
-    place: &Surroundings<'_>,
-    name: &[u8],
-) -> Result<bool, AllocError>
+fn names_element(alloc: Global, place: &Surroundings<'_>, name: &[u8]) -> Result<bool, AllocError>
     ensures { IfOk result (λ found. found ≡ names_element (sight_from place.now) name.now) }
 {
     for mark in place.types() {
