@@ -3,6 +3,7 @@
 
 mod attributing;
 mod elements;
+pub mod laws;
 mod making;
 pub mod names;
 pub mod setting;
