@@ -12,3 +12,6 @@ mod values;
 mod wanted;
 
 pub use setting::{ends_in, ways_in};
+
+#[cfg(test)]
+mod tests;
