@@ -1,6 +1,6 @@
 //! What overload resolution makes of an expression.
 
-use crate::texts::{CHOICE, Frame, RANGE, VALUE, find};
+use crate::texts::{Frame, find};
 use crate::world::World;
 use anyhow::bail;
 use std::alloc::Global;
@@ -24,11 +24,11 @@ const LONGEST: usize = 1 << 23;
 fn wanted_of(alloc: Global, world: &World, want: &str) -> anyhow::Result<(Wanted, Frame)> {
     let words: Vec<&str> = want.split_whitespace().collect(alloc)?;
     match words.as_slice() {
-        ["condition"] => Ok((Wanted::Condition, VALUE)),
-        ["free"] => Ok((Wanted::Free, VALUE)),
-        ["discrete"] => Ok((Wanted::AnyDiscreteRange, RANGE)),
-        ["choice", mark] => Ok((Wanted::Choice(type_of(alloc, world, mark)?), CHOICE)),
-        [mark] => Ok((Wanted::OfType(type_of(alloc, world, mark)?), VALUE)),
+        ["condition"] => Ok((Wanted::Condition, Frame::Value)),
+        ["free"] => Ok((Wanted::Free, Frame::Value)),
+        ["discrete"] => Ok((Wanted::AnyDiscreteRange, Frame::Range)),
+        ["choice", mark] => Ok((Wanted::Choice(type_of(alloc, world, mark)?), Frame::Choice)),
+        [mark] => Ok((Wanted::OfType(type_of(alloc, world, mark)?), Frame::Value)),
         _ => bail!("{want} isn't wanted of anything"),
     }
 }
@@ -70,23 +70,16 @@ fn design93(alloc: Global, text: &str) -> anyhow::Result<Design93> {
     }
 }
 
-/// The expression in a tree, with nothing behind it.
-fn expression_in(
+/// The expression in a tree, and what stands behind it.
+fn expression_in<'a>(
     alloc: Global,
-    units: &Cursor<'_, Form>,
-    frame: &Frame,
-    out: &mut Store<Form>,
-) -> anyhow::Result<u32> {
-    let Some(found) = find(alloc, units, frame.form)? else {
+    units: &Cursor<'a, Form>,
+    frame: Frame,
+) -> anyhow::Result<Cursor<'a, Form>> {
+    let Some(found) = find(alloc, units, frame.form())? else {
         bail!("the text has no such form");
     };
-    let parts = found.parts();
-    let Some(first) = parts.skip(frame.part).open() else {
-        bail!("the form has no such part");
-    };
-    let inside = out.copy(&first.parts)?;
-    let number = out.add(first.form, first.text, first.place, inside, 0)?;
-    Ok(number)
+    Ok(found.parts().skip(frame.part()))
 }
 
 /// The one interpretation, or the rule and the column in the expression.
@@ -94,35 +87,39 @@ fn resolved(
     alloc: Global,
     world: &World,
     wanted: &Wanted,
-    frame: &Frame,
+    frame: Frame,
     units: &Cursor<'_, Form>,
 ) -> anyhow::Result<String> {
-    let mut trees = Store::new(alloc);
-    let number = expression_in(alloc, units, frame, &mut trees)?;
+    let tree = expression_in(alloc, units, frame)?;
     let types = all_types(alloc, &world.regions)?;
     let env = Env {
         surroundings: Surroundings::of(world.revision, &world.regions, world.here, &types),
     };
     let mut out = Store::new(alloc);
-    match resolve_expr(alloc, &env, &trees.cursor(number), wanted, &mut out) {
+    match resolve_expr(alloc, &env, &tree, wanted, &mut out) {
         Ok(_) => Ok(String::from_str(alloc, "ok")?),
         Err(Refusal::Memory) => Ok(String::from_str(alloc, "no memory")?),
         Err(Refusal::Refused(r)) => {
             let rule = r.rule;
-            let column = (r.place.column as usize).saturating_sub(frame.front.len());
+            let column = (r.place.column as usize).saturating_sub(frame.front().len());
             Ok(format!(in alloc; "{rule}@{column}")?)
         }
     }
 }
 
 /// What comes of a question: what is wanted, a colon and an expression. Without an answer the text is read alone.
-pub fn outcome(alloc: Global, world: &World, question: &str, asked: bool) -> anyhow::Result<String> {
+pub fn outcome(
+    alloc: Global,
+    world: &World,
+    question: &str,
+    asked: bool,
+) -> anyhow::Result<String> {
     let Some((want, text)) = question.split_once(" : ") else {
         bail!("{question} is no question");
     };
     let (wanted, frame) = wanted_of(alloc, world, want.trim())?;
-    let front = frame.front;
-    let back = frame.back;
+    let front = frame.front();
+    let back = frame.back();
     let text = text.trim();
     let whole = format!(in alloc; "{front}{text}{back}")?;
     match world.revision {
@@ -131,14 +128,14 @@ pub fn outcome(alloc: Global, world: &World, question: &str, asked: bool) -> any
             if !asked {
                 return Ok(String::new(alloc));
             }
-            resolved(alloc, world, &wanted, &frame, &design.units())
+            resolved(alloc, world, &wanted, frame, &design.units())
         }
         Revision::V1993 => {
             let design = design93(alloc, &whole)?;
             if !asked {
                 return Ok(String::new(alloc));
             }
-            resolved(alloc, world, &wanted, &frame, &design.units())
+            resolved(alloc, world, &wanted, frame, &design.units())
         }
     }
 }

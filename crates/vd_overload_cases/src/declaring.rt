@@ -67,7 +67,13 @@ fn array(
     let index = world.base(index_mark)?;
     let element_mark = world.find(alloc, element)?;
     let element = world.base(element_mark)?;
-    let made = put(alloc, world, array_class(index, element, element_mark), name, None)?;
+    let made = put(
+        alloc,
+        world,
+        array_class(index, element, element_mark),
+        name,
+        None,
+    )?;
     let here = world.here;
     if !world.regions.is_region(here) {
         bail!("there is no such region");
@@ -99,8 +105,20 @@ fn member(
     };
     let mark = world.find(alloc, mark)?;
     let base = world.base(mark)?;
-    let class = if is_parameter { Class::Parameter } else { Class::RecordElement };
-    let id = world.enter(alloc, region, class, name, Some(base), Vec::new(alloc), None)?;
+    let class = if is_parameter {
+        Class::Parameter
+    } else {
+        Class::RecordElement
+    };
+    let id = world.enter(
+        alloc,
+        region,
+        class,
+        name,
+        Some(base),
+        Vec::new(alloc),
+        None,
+    )?;
     Ok(id)
 }
 
@@ -134,7 +152,15 @@ fn record_type(
     if world.regions.is_region(inside) {
         world.regions.close(inside);
     }
-    let made = world.enter(alloc, here, Class::RecordType, name, None, ids, Some(inside))?;
+    let made = world.enter(
+        alloc,
+        here,
+        Class::RecordType,
+        name,
+        None,
+        ids,
+        Some(inside),
+    )?;
     if !world.regions.is_region(here) {
         bail!("there is no such region");
     }
@@ -159,7 +185,15 @@ fn function(
     let ids = members(alloc, world, inside, true, parameters)?;
     let mark = world.find(alloc, returned)?;
     let base = world.base(mark)?;
-    world.enter(alloc, here, Class::Function, name, Some(base), ids, Some(inside))?;
+    world.enter(
+        alloc,
+        here,
+        Class::Function,
+        name,
+        Some(base),
+        ids,
+        Some(inside),
+    )?;
     Ok(())
 }
 

@@ -4,38 +4,54 @@ use std::alloc::{AllocError, Global};
 use vd_forest::Cursor;
 use vd_forms::Form;
 
-/// A text round an expression: what stands in front of it and behind it, the form that it is a part of, and which part it is.
-#[derive(Drop)]
-pub struct Frame {
-    pub front: &'static str,
-    pub back: &'static str,
-    pub form: Form,
-    pub part: u32,
+/// What stands round an expression.
+#[derive(Clone, Copy, PartialEq, Eq, Debug)]
+pub enum Frame {
+    /// The declaration of a constant, whose value it is.
+    Value,
+    /// A `for` generate, whose range it is.
+    Range,
+    /// A `case` statement, of which it is a choice.
+    Choice,
 }
 
-/// A value.
-pub const VALUE: Frame = Frame {
-    front: "package p is constant c : t := ",
-    back: "; end;",
-    form: Form::ConstantDeclaration,
-    part: 2,
-};
+impl Frame {
+    /// What stands in front of it.
+    pub fn front(self) -> &'static str {
+        match self {
+            Frame::Value => "package p is constant c : t := ",
+            Frame::Range => "architecture a of e is begin g : for i in ",
+            Frame::Choice => "architecture a of e is begin process begin case c is when ",
+        }
+    }
 
-/// A discrete range.
-pub const RANGE: Frame = Frame {
-    front: "architecture a of e is begin g : for i in ",
-    back: " generate begin end generate; end;",
-    form: Form::ForGenerate,
-    part: 1,
-};
+    /// What stands behind it.
+    pub fn back(self) -> &'static str {
+        match self {
+            Frame::Value => "; end;",
+            Frame::Range => " generate begin end generate; end;",
+            Frame::Choice => " => end case; end process; end;",
+        }
+    }
 
-/// A choice.
-pub const CHOICE: Frame = Frame {
-    front: "architecture a of e is begin process begin case c is when ",
-    back: " => end case; end process; end;",
-    form: Form::Choices,
-    part: 0,
-};
+    /// The form that it is a part of.
+    pub fn form(self) -> Form {
+        match self {
+            Frame::Value => Form::ConstantDeclaration,
+            Frame::Range => Form::ForGenerate,
+            Frame::Choice => Form::Choices,
+        }
+    }
+
+    /// Which of its parts, from 0.
+    pub fn part(self) -> u32 {
+        match self {
+            Frame::Value => 2,
+            Frame::Range => 1,
+            Frame::Choice => 0,
+        }
+    }
+}
 
 /// The first tree of this form, in the order of the text.
 pub fn find<'a>(

@@ -76,7 +76,15 @@ impl World {
     /// A package of the library `work`, which the next steps fill.
     pub fn package(&mut self, alloc: Global, name: &str) -> anyhow::Result<()> {
         let inside = self.unit()?;
-        self.enter(alloc, RegionId::of(WORK), Class::Package, name, None, Vec::new(alloc), Some(inside))?;
+        self.enter(
+            alloc,
+            RegionId::of(WORK),
+            Class::Package,
+            name,
+            None,
+            Vec::new(alloc),
+            Some(inside),
+        )?;
         Ok(())
     }
 
