@@ -9,6 +9,7 @@ use vd_forest::{Cursor, Store};
 use vd_overloads::{Env, Wanted, resolve_expr};
 use vd_resolved::Resolved;
 use vd_sights::Surroundings;
+use vd_sights::type_lists::all_types;
 
 /// The name of a declaration.
 fn name_of<'a>(world: &'a World, number: u32) -> &'a str {
@@ -17,6 +18,25 @@ fn name_of<'a>(world: &'a World, number: u32) -> &'a str {
         return "?";
     }
     str::from_utf8(world.regions.declaration(id).name.as_slice()).unwrap_or("?")
+}
+
+/// Prints the name of a declaration, and the types of a function's parameters.
+fn print_declaration(rt: HostRuntime, world: &World, id: DeclId) -> anyhow::Result<()> {
+    let name = name_of(world, id.number());
+    print!(rt; " {name}")?;
+    if !world.regions.is_declaration(id) {
+        return Ok(());
+    }
+    for parameter in world.regions.declaration(id).parameters.as_slice() {
+        if !world.regions.is_declaration(*parameter) {
+            continue;
+        }
+        if let Some(mark) = world.regions.declaration(*parameter).mark {
+            let name = name_of(world, mark.number());
+            print!(rt; " /{name}")?;
+        }
+    }
+    Ok(())
 }
 
 /// Prints each node that has a declaration or a type.
@@ -38,14 +58,7 @@ fn print_nodes(rt: HostRuntime, world: &World, trees: &Cursor<'_, Resolved>) -> 
         print!(rt; "{form:?} ")?;
         rt.stdout().write_all(first.text)?;
         if let Some(id) = node.declaration {
-            let name = name_of(world, id.number());
-            print!(rt; " {name}")?;
-            for parameter in world.regions.declaration(id).parameters.as_slice() {
-                if let Some(mark) = world.regions.declaration(*parameter).mark {
-                    let name = name_of(world, mark.number());
-                    print!(rt; " /{name}")?;
-                }
-            }
+            print_declaration(rt, world, id)?;
         }
         if let Some(mark) = node.mark {
             let name = name_of(world, mark.number());
@@ -74,20 +87,13 @@ pub fn print_answer(
         expression,
         matches!(wanted, Wanted::AnyDiscreteRange),
     )?;
-    let units = design.units();
-    let tree = expression_in(rt.alloc(), &units)?;
-    let mut copy = Store::new(rt.alloc());
-    let number = alone(&tree, &mut copy)?;
+    let tree = expression_in(rt.alloc(), &design.units())?;
+    let types = all_types(rt.alloc(), &world.regions)?;
     let env = Env {
-        surroundings: Surroundings::of(
-            world.revision,
-            &world.regions,
-            world.region,
-            world.types.as_slice(),
-        ),
+        surroundings: Surroundings::of(world.revision, &world.regions, world.region, &types),
     };
     let mut out = Store::new(rt.alloc());
-    match resolve_expr(rt.alloc(), &env, &copy.cursor(number), wanted, &mut out) {
+    match resolve_expr(rt.alloc(), &env, &tree, wanted, &mut out) {
         Ok(number) => print_nodes(rt, world, &out.cursor(number)),
         Err(Refusal::Refused(r)) => {
             let rule = r.rule;
@@ -101,17 +107,4 @@ pub fn print_answer(
             Ok(())
         }
     }
-}
-
-/// The first tree of a forest with nothing behind it.
-fn alone(
-    trees: &Cursor<'_, vd_forms::Form>,
-    out: &mut Store<vd_forms::Form>,
-) -> anyhow::Result<u32> {
-    let Some(first) = trees.open() else {
-        return Ok(0);
-    };
-    let parts = out.copy(&first.parts)?;
-    let made = out.add(first.form, first.text, first.place, parts, 0)?;
-    Ok(made)
 }

@@ -1,10 +1,12 @@
-//! A region in which all that is declared stands, after a use clause of `ieee.std_logic_1164`.
+//! A region in which all that is declared stands, after use clauses of `std.standard` and `ieee.std_logic_1164`.
+
+ghost use Rattle.std.specs.Prelude.{◌≡◌, IfOk};
 
 use anyhow::bail;
 use std::alloc::{AllocError, Global};
 use vd_bytes::{Place, Text};
 use vd_declarations::{Class, DeclId, Declaration, Declarations, Made, RegionId, TypeId};
-use vd_given::numbers::{REGION_OF_1164, REGION_OF_WORK};
+use vd_given::numbers::{REGION_OF_1164, REGION_OF_STANDARD, REGION_OF_WORK};
 use vd_given::{declare_operators, given};
 use vd_regions::Regions;
 use vd_trees::Revision;
@@ -15,7 +17,6 @@ pub struct World {
     pub revision: Revision,
     pub regions: Regions,
     pub region: RegionId,
-    pub types: Vec<TypeId>,
 }
 
 /// Whether a line of this kind declares something.
@@ -26,34 +27,57 @@ pub fn is_declared(kind: &str) -> bool {
     )
 }
 
+/// A declaration that stands nowhere.
+fn declaration(
+    alloc: Global,
+    class: Class,
+    name: &str,
+    mark: Option<TypeId>,
+    parameters: Vec<DeclId>,
+    inside: Option<RegionId>,
+) -> Result<Declaration, AllocError>
+    ensures { IfOk result (λ d. d.name ≡ name.now) }
+{
+    Ok(Declaration {
+        class,
+        name: Text::from_slice(alloc, name.as_bytes())?,
+        mark,
+        parameters: Declarations::of(parameters),
+        inside,
+        place: Place {
+            file: 0,
+            line: 1,
+            column: 1,
+        },
+        made: Made::Written,
+        wanted: Text::from_slice(alloc, b"")?,
+    })
+}
+
 impl World {
     /// What is given.
     pub fn new(alloc: Global, revision: Revision) -> anyhow::Result<World> {
         let mut regions = Regions::new(alloc)?;
         given(alloc, &mut regions, revision)?;
-        let region = regions.nest(RegionId::of(REGION_OF_WORK))?;
-        regions.use_name(region, RegionId::of(5), None)?;
-        regions.use_name(region, RegionId::of(REGION_OF_1164), None)?;
-        let mut types = Vec::new(alloc);
-        for number in 0..4294967295u32 {
-            let id = DeclId::of(number);
-            if !regions.is_declaration(id) {
-                break;
-            }
-            if regions.declaration(id).class.is_type() {
-                types.push(TypeId::of(number))?;
+        let work = RegionId::of(REGION_OF_WORK);
+        if !regions.is_region(work) {
+            bail!("no library");
+        }
+        let region = regions.nest(work)?;
+        for package in [REGION_OF_STANDARD, REGION_OF_1164] {
+            if regions.is_region(region) {
+                regions.use_name(region, RegionId::of(package), None)?;
             }
         }
         Ok(World {
             revision,
             regions,
             region,
-            types,
         })
     }
 
     /// The declaration that a name means.
-    pub fn named(&self, alloc: Global, name: &str) -> anyhow::Result<DeclId> {
+    fn named(&self, alloc: Global, name: &str) -> anyhow::Result<DeclId> {
         let found = self.regions.visible(alloc, self.region, name)?;
         match found.first() {
             Some(id) => Ok(*id),
@@ -61,29 +85,23 @@ impl World {
         }
     }
 
-    /// The type of a mark.
-    pub fn type_of(&self, name: &str) -> Option<TypeId> {
-        for mark in &self.types {
-            let declared = self.regions.declaration(DeclId::of(mark.number()));
-            if declared.name.as_slice() == name.as_bytes() {
-                return Some(*mark);
-            }
+    /// The type that a mark names.
+    pub fn type_named(&self, alloc: Global, name: &str) -> anyhow::Result<TypeId> {
+        let id = self.named(alloc, name)?;
+        if !self.regions.is_declaration(id) {
+            bail!("nothing is called {name}");
         }
-        None
-    }
-
-    /// The type that a type or a subtype is.
-    fn meant(&self, id: DeclId) -> TypeId {
-        match self.regions.declaration(id).class {
-            Class::Subtype { .. } => self
-                .regions
-                .declaration(id)
-                .mark
-                .unwrap_or(TypeId::of(id.number())),
-            _ => TypeId::of(id.number()),
+        let declared = self.regions.declaration(id);
+        match declared.class {
+            Class::Subtype { .. } => match declared.mark {
+                Some(mark) => Ok(mark),
+                None => bail!("{name} is a subtype of nothing"),
+            },
+            _ => Ok(TypeId::of(id.number())),
         }
     }
 
+    /// Enters a declaration.
     fn enter(
         &mut self,
         alloc: Global,
@@ -93,42 +111,39 @@ impl World {
         mark: Option<TypeId>,
         parameters: Vec<DeclId>,
     ) -> anyhow::Result<DeclId> {
-        let declared = Declaration {
-            class,
-            name: Text::from_slice(alloc, name.as_bytes())?,
-            mark,
-            parameters: Declarations::of(parameters),
-            inside: None,
-            place: Place {
-                file: 0,
-                line: 1,
-                column: 1,
-            },
-            made: Made::Written,
-            wanted: Text::from_slice(alloc, b"")?,
-        };
+        let declared = declaration(alloc, class, name, mark, parameters, None)?;
         match self.regions.enter(region, name, declared) {
             Ok(id) => Ok(id),
             Err(_) => bail!("{name} is not entered"),
         }
     }
 
+    /// A region inside that of all that is declared.
+    fn nest(&mut self) -> anyhow::Result<RegionId> {
+        if !self.regions.is_region(self.region) {
+            bail!("no region");
+        }
+        let inside = self.regions.nest(self.region)?;
+        Ok(inside)
+    }
+
     /// Declares what a line says.
     pub fn declare(&mut self, alloc: Global, kind: &str, rest: &str) -> anyhow::Result<()> {
         let words: Vec<&str> = rest.split(' ').collect(alloc)?;
-        let Some(name) = words.first() else {
+        let [name, others @ ..] = words.as_slice() else {
             bail!("no name");
         };
-        let others = &words[1..];
-        match kind {
-            "signal" => self.object(alloc, Class::Signal, name, others),
-            "constant" => self.object(alloc, Class::Constant, name, others),
-            "enumeration" => self.enumeration(alloc, name, others),
-            "array" => self.array(alloc, name, others),
-            "record" => self.record(alloc, name, others),
-            "subtype" => self.subtype(alloc, name, others),
-            "function" => self.function(alloc, name, others),
-            _ => bail!("no such kind"),
+        match (kind, others) {
+            ("signal", [mark]) => self.object(alloc, Class::Signal, name, mark),
+            ("constant", [mark]) => self.object(alloc, Class::Constant, name, mark),
+            ("subtype", [mark]) => self.subtype(alloc, name, mark),
+            ("array", [index, element]) => self.array(alloc, name, index, element),
+            ("enumeration", _) => self.enumeration(alloc, name, others),
+            ("record", _) => self.record(alloc, name, others),
+            ("function", [result_mark, marks @ ..]) => {
+                self.function(alloc, name, result_mark, marks)
+            }
+            _ => bail!("{kind} {name} has other words"),
         }
     }
 
@@ -137,151 +152,112 @@ impl World {
         alloc: Global,
         class: Class,
         name: &str,
-        marks: &[&str],
+        mark: &str,
     ) -> anyhow::Result<()> {
-        let mark = self.named(alloc, marks[0])?;
-        let mark = self.meant(mark);
-        self.enter(
-            alloc,
-            self.region,
-            class,
-            name,
-            Some(mark),
-            Vec::new(alloc),
-        )?;
+        let mark = self.type_named(alloc, mark)?;
+        self.enter(alloc, self.region, class, name, Some(mark), Vec::new(alloc))?;
         Ok(())
     }
 
-    fn subtype(&mut self, alloc: Global, name: &str, marks: &[&str]) -> anyhow::Result<()> {
-        let mark = self.named(alloc, marks[0])?;
-        let class = Class::Subtype { mark };
-        let mark = self.meant(mark);
-        self.enter(
-            alloc,
-            self.region,
-            class,
-            name,
-            Some(mark),
-            Vec::new(alloc),
-        )?;
-        Ok(())
+    fn subtype(&mut self, alloc: Global, name: &str, mark: &str) -> anyhow::Result<()> {
+        let class = Class::Subtype {
+            mark: self.named(alloc, mark)?,
+        };
+        self.object(alloc, class, name, mark)
     }
 
-    fn type_named(
-        &mut self,
-        alloc: Global,
-        class: Class,
-        name: &str,
-        elements: Vec<DeclId>,
-    ) -> anyhow::Result<TypeId> {
-        let id = self.enter(alloc, self.region, class, name, None, elements)?;
-        let mark = TypeId::of(id.number());
-        self.types.push(mark)?;
-        Ok(mark)
-    }
-
-    fn operators(&mut self, alloc: Global, mark: TypeId, class: Class) -> anyhow::Result<()> {
-        match declare_operators(alloc, &mut self.regions, self.region, mark, class) {
+    /// Declares the operators of a type.
+    fn operators(&mut self, alloc: Global, own: DeclId, class: Class) -> anyhow::Result<()> {
+        if let Class::ArrayType { index, element, .. } = class {
+            for mark in [index, element] {
+                if !self.regions.is_declaration(DeclId::of(mark.number())) {
+                    bail!("no type");
+                }
+            }
+        }
+        if !self.regions.is_region(self.region) {
+            bail!("no region");
+        }
+        let own = TypeId::of(own.number());
+        match declare_operators(alloc, &mut self.regions, self.region, own, class) {
             Ok(()) => Ok(()),
             Err(_) => bail!("operators are not entered"),
         }
     }
 
-    fn enumeration(&mut self, alloc: Global, name: &str, literals: &[&str]) -> anyhow::Result<()> {
-        let mark = self.type_named(alloc, Class::EnumerationType, name, Vec::new(alloc))?;
+    fn enumeration(
+        &mut self,
+        alloc: Global,
+        name: &str,
+        literals: &[&str],
+    ) -> anyhow::Result<()> {
+        let class = Class::EnumerationType;
+        let own = self.enter(alloc, self.region, class, name, None, Vec::new(alloc))?;
         for literal in literals {
-            self.enter(
-                alloc,
-                self.region,
-                Class::EnumerationLiteral,
-                literal,
-                Some(mark),
-                Vec::new(alloc),
-            )?;
+            let class = Class::EnumerationLiteral;
+            let mark = Some(TypeId::of(own.number()));
+            self.enter(alloc, self.region, class, literal, mark, Vec::new(alloc))?;
         }
-        self.operators(alloc, mark, Class::EnumerationType)
+        self.operators(alloc, own, class)
     }
 
-    fn array(&mut self, alloc: Global, name: &str, marks: &[&str]) -> anyhow::Result<()> {
-        let index = self.named(alloc, marks[0])?;
-        let element_mark = self.named(alloc, marks[1])?;
+    fn array(
+        &mut self,
+        alloc: Global,
+        name: &str,
+        index: &str,
+        element: &str,
+    ) -> anyhow::Result<()> {
         let class = Class::ArrayType {
-            index: self.meant(index),
-            element: self.meant(element_mark),
-            element_mark,
+            index: self.type_named(alloc, index)?,
+            element: self.type_named(alloc, element)?,
+            element_mark: self.named(alloc, element)?,
         };
-        let mark = self.type_named(alloc, class, name, Vec::new(alloc))?;
-        self.operators(alloc, mark, class)
+        let own = self.enter(alloc, self.region, class, name, None, Vec::new(alloc))?;
+        self.operators(alloc, own, class)
     }
 
     fn record(&mut self, alloc: Global, name: &str, pairs: &[&str]) -> anyhow::Result<()> {
-        let inside = self.regions.nest(self.region)?;
+        let inside = self.nest()?;
         let mut elements = Vec::new(alloc);
         for pair in pairs.chunks(2) {
-            let mark = self.named(alloc, pair[1])?;
-            let mark = self.meant(mark);
-            let element = self.enter(
-                alloc,
-                inside,
-                Class::RecordElement,
-                pair[0],
-                Some(mark),
-                Vec::new(alloc),
-            )?;
-            elements.push(element)?;
+            let [element, mark] = pair else {
+                bail!("an element of {name} has no mark");
+            };
+            let mark = Some(self.type_named(alloc, mark)?);
+            let class = Class::RecordElement;
+            let id = self.enter(alloc, inside, class, element, mark, Vec::new(alloc))?;
+            elements.push(id)?;
         }
-        self.regions.close(inside);
-        let declared = Declaration {
-            class: Class::RecordType,
-            name: Text::from_slice(alloc, name.as_bytes())?,
-            mark: None,
-            parameters: Declarations::of(elements),
-            inside: Some(inside),
-            place: Place {
-                file: 0,
-                line: 1,
-                column: 1,
-            },
-            made: Made::Written,
-            wanted: Text::from_slice(alloc, b"")?,
-        };
+        if self.regions.is_region(inside) {
+            self.regions.close(inside);
+        }
+        let class = Class::RecordType;
+        let declared = declaration(alloc, class, name, None, elements, Some(inside))?;
         match self.regions.enter(self.region, name, declared) {
-            Ok(id) => {
-                let mark = TypeId::of(id.number());
-                self.types.push(mark)?;
-                self.operators(alloc, mark, Class::RecordType)
-            }
-            Err(_) => bail!("not entered"),
+            Ok(own) => self.operators(alloc, own, class),
+            Err(_) => bail!("{name} is not entered"),
         }
     }
 
-    fn function(&mut self, alloc: Global, name: &str, marks: &[&str]) -> anyhow::Result<()> {
-        let result = self.named(alloc, marks[0])?;
-        let result = self.meant(result);
-        let inside = self.regions.nest(self.region)?;
+    fn function(
+        &mut self,
+        alloc: Global,
+        name: &str,
+        result_mark: &str,
+        marks: &[&str],
+    ) -> anyhow::Result<()> {
+        let given = Some(self.type_named(alloc, result_mark)?);
+        let inside = self.nest()?;
         let mut parameters = Vec::new(alloc);
-        for (at, mark) in marks[1..].iter().enumerate() {
-            let mark = self.named(alloc, mark)?;
-            let mark = self.meant(mark);
+        for (at, mark) in marks.iter().enumerate() {
+            let mark = Some(self.type_named(alloc, mark)?);
             let parameter = format!(in alloc; "p{at}")?;
-            let id = self.enter(
-                alloc,
-                inside,
-                Class::Parameter,
-                parameter.as_str(),
-                Some(mark),
-                Vec::new(alloc),
-            )?;
+            let class = Class::Parameter;
+            let id = self.enter(alloc, inside, class, &parameter, mark, Vec::new(alloc))?;
             parameters.push(id)?;
         }
-        self.enter(
-            alloc,
-            self.region,
-            Class::Function,
-            name,
-            Some(result),
-            parameters,
-        )?;
+        self.enter(alloc, self.region, Class::Function, name, given, parameters)?;
         Ok(())
     }
 }
