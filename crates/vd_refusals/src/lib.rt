@@ -10,3 +10,6 @@ mod spots;
 pub use finder::first_refusal;
 pub use seen::Seen;
 pub use spots::{Need, Spot};
+
+#[cfg(test)]
+mod tests;

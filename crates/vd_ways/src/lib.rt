@@ -3,6 +3,7 @@
 
 mod attributing;
 mod elements;
+pub mod laws;
 mod making;
 pub mod names;
 pub mod setting;
@@ -11,3 +12,6 @@ mod values;
 mod wanted;
 
 pub use setting::{ends_in, ways_in};
+
+#[cfg(test)]
+mod tests;
