@@ -1,10 +1,10 @@
 -- What is still to be searched. No name has a dash, so that a caller can name each in `#[tactic(auto, using(..))]`.
-use Rattle.std.proofs.Common.{◌≡◌, ◌<◌, ◌≤◌, ◌+◌, ◌*◌, ℕ, zero, suc, List, [], ◌∷◌, ◌++◌, length, reverse, Option, Some, None, refl, sym, ap, subst, ◌∙◌, arith}
+use Rattle.std.proofs.Common.{◌≡◌, ◌<◌, ◌≤◌, ◌+◌, ◌*◌, ℕ, List, [], ◌∷◌, ◌++◌, length, reverse, Option, Some, None, refl, sym, ap, subst, ◌∙◌, arith}
 use Rattle.std.specs.List.{sum_by}
 use Rattle.std.proofs.lemmas.List.{reverse-append}
 use Rattle.std.proofs.lemmas.List.Sums.{sum_by-append, sum_by-cons}
 use Rattle.vd_bytes.specs.declared.places.Place.{Place}
-use Rattle.vd_forest.specs.Forest.{Forest, nothing, more, size}
+use Rattle.vd_forest.specs.Forest.{Forest, more, size}
 use Rattle.vd_forest.specs.Store.{at}
 use Rattle.vd_finding.specs.declared.finding.Left.{Left}
 use Rattle.vd_finding.specs.Finding.{Finder, or_else, first_found}
@@ -73,8 +73,8 @@ module _ {F S A : Type 0} (finder : Finder F S A) (fs : List (Forest F)) where
       → answer ≡ finder.answer l.state form text place parts → answer ≡ Some a → Some a ≡ want
   left_answered us ls l want answer a form text place parts p n left is opened parts_are said some =
       sym (ap (λ f. or_else (first_found finder l.state f) (all_found (reverse ls))) opened
-        ∙ ap (λ o. or_else (or_else o (or_else (first_found finder (finder.down l.state form text place (at fs p)) (at fs p)) (first_found finder (finder.along l.state form text place (at fs p)) (at fs n)))) (all_found (reverse ls)))
-          (ap (finder.answer l.state form text place) (sym parts_are) ∙ sym said ∙ some))
+      ∙ ap (λ o. or_else (or_else o (or_else (first_found finder (finder.down l.state form text place (at fs p)) (at fs p)) (first_found finder (finder.along l.state form text place (at fs p)) (at fs n)))) (all_found (reverse ls)))
+      (ap (finder.answer l.state form text place) (sym parts_are) ∙ sym said ∙ some))
       ∙ last_found us ls l want left is
 
   -- a node doesn't, and its parts and the trees after it are left
@@ -89,7 +89,7 @@ module _ {F S A : Type 0} (finder : Finder F S A) (fs : List (Forest F)) where
       let first : Left S = record { number = p; state = down } in
       let second : Left S = record { number = n; state = along } in
       let turned : reverse vs ≡ first ∷ (second ∷ reverse ls) =
-        ap reverse pushed ∙ turned_push (ls ++ second ∷ []) first ∙ ap (λ ks. first ∷ ks) (turned_push ls second) in
+      ap reverse pushed ∙ turned_push (ls ++ second ∷ []) first ∙ ap (λ ks. first ∷ ks) (turned_push ls second) in
       let inside = first_found finder down (at fs p) in
       let behind = first_found finder along (at fs n) in
       record {
@@ -98,9 +98,9 @@ module _ {F S A : Type 0} (finder : Finder F S A) (fs : List (Forest F)) where
             ∙ sym (or_else_or_else inside behind (all_found (reverse ls)))
             ∙ ap (λ s. or_else (or_else (first_found finder s (at fs p)) behind) (all_found (reverse ls))) (down_is ∙ ap (finder.down l.state form text place) parts_are)
             ∙ ap (λ s. or_else (or_else (first_found finder (finder.down l.state form text place (at fs p)) (at fs p)) (first_found finder s (at fs n))) (all_found (reverse ls)))
-              (along_is ∙ ap (finder.along l.state form text place) parts_are)
+            (along_is ∙ ap (finder.along l.state form text place) parts_are)
             ∙ ap (λ o. or_else (or_else o (or_else (first_found finder (finder.down l.state form text place (at fs p)) (at fs p)) (first_found finder (finder.along l.state form text place (at fs p)) (at fs n)))) (all_found (reverse ls)))
-              (sym none ∙ said ∙ ap (finder.answer l.state form text place) parts_are)
+            (sym none ∙ said ∙ ap (finder.answer l.state form text place) parts_are)
             ∙ ap (λ f. or_else (first_found finder l.state f) (all_found (reverse ls))) (sym opened)
             ∙ last_found us ls l want left is;
       }

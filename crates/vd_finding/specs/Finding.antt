@@ -20,4 +20,4 @@ first_found finder state nothing = None
 first_found finder state (more form text place parts next) =
     or_else (finder.answer state form text place parts)
     (or_else (first_found finder (finder.down state form text place parts) parts)
-      (first_found finder (finder.along state form text place parts) next))
+    (first_found finder (finder.along state form text place parts) next))

@@ -2,5 +2,7 @@
 #![tactic(auto)]
 
 pub mod finding;
+#[cfg(test)]
+mod tests;
 
 pub use finding::{Finding, find_first};

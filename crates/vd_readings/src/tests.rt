@@ -32,9 +32,10 @@ impl Language for Table {
     ghost use Rattle.vd_readings.specs.Readings.{Rules};
 
     ghost rules = { λ table. record {
-        ways = λ state form text parts.
-            map (λ r. r.way) (filter (λ r. ⟦<State as PartialEq>⟧.eq r.state state && ⟦<Form as PartialEq>⟧.eq r.form form) table.rows.items);
-        ends = λ state. ⟦<State as PartialEq>⟧.eq state Done } };
+      ways = λ state form text parts.
+          map (λ r. r.way) (filter (λ r. ⟦<State as PartialEq>⟧.eq r.state state && ⟦<Form as PartialEq>⟧.eq r.form form) table.rows.items);
+      ends = λ state. ⟦<State as PartialEq>⟧.eq state Done;
+    } };
 
     fn ends(&self, state: State) -> bool {
         state == State::Done
