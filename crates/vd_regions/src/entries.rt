@@ -1,7 +1,8 @@
 //! What stands in a region.
 
-ghost use Rattle.std.specs.Prelude.{◌≡◌, ◌++◌, ◌∷◌, [], map, OnOk, OnErr};
+ghost use Rattle.std.specs.Prelude.{◌≡◌, ◌<◌, ◌+◌, ◌^◌, ◌++◌, ◌∷◌, [], map, OnOk, OnErr};
 ghost use Rattle.vd_regions.specs.Scopes.{Clause};
+ghost use Rattle.vd_regions.specs.Indexes.{grown};
 
 use std::alloc::{AllocError, Global};
 use std::marker::Model;
@@ -22,11 +23,71 @@ pub(crate) struct Link {
     pub(crate) before: u32,
 }
 
+impl Link {
+    pub(crate) fn new(entered: Entered, before: u32) -> Link
+        ensures { result ≡ record { entered = entered; before = before } }
+    {
+        Link { entered, before }
+    }
+}
+
 /// A table's key.
 #[derive(PartialEq, Eq, Hash, Drop)]
 pub(crate) struct Key {
     pub(crate) region: u32,
     pub(crate) name: Vec<u8>,
+}
+
+/// A table: its newest declaration, counted from 1, or 0 where there is none; its first; and the first that is not overloadable.
+#[derive(Clone, Copy)]
+pub(crate) struct Table {
+    pub(crate) newest: u32,
+    pub(crate) first: Option<u32>,
+    pub(crate) alone: Option<u32>,
+}
+
+impl Table {
+    /// With a declaration more, whose number is no greatest one.
+    pub(crate) fn with(self, id: u32, overloadable: bool) -> Table
+        requires { id + 1 < 2 ^ 32 }
+        ensures { result ≡ grown self id overloadable }
+    {
+        let alone = if overloadable { None } else { Some(id) };
+        Table {
+            newest: id + 1,
+            first: self.first.or(Some(id)),
+            alone: self.alone.or(alone),
+        }
+    }
+}
+
+/// A name alone, as a table's key.
+#[derive(PartialEq, Eq, Hash, Drop)]
+pub(crate) struct Name {
+    pub(crate) bytes: Vec<u8>,
+}
+
+/// What overloadable declarations have in common that may clash: region and name, whether they are operators that types brought with
+/// them, or functions of an instance, and the types of result and parameters.
+#[derive(PartialEq, Eq, Hash, Drop)]
+pub(crate) struct Sort {
+    pub(crate) region: u32,
+    pub(crate) name: Vec<u8>,
+    pub(crate) predefined: bool,
+    pub(crate) copy: bool,
+    pub(crate) profile: Vec<Option<u32>>,
+}
+
+/// What is noted of a declaration before it is entered: its number, whether each one stands behind its parameters then, its sort, where
+/// it is overloadable, and its table, as it is and with it.
+#[derive(Drop)]
+pub(crate) struct Note {
+    pub(crate) id: u32,
+    pub(crate) settled: bool,
+    pub(crate) sort: Option<Sort>,
+    pub(crate) key: Key,
+    pub(crate) table: Table,
+    pub(crate) grown: Table,
 }
 
 /// A use clause: of a name, or of all.

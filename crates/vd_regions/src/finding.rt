@@ -10,35 +10,22 @@ ghost use Rattle.vd_regions.specs.Visible.{IsMeant};
 ghost use Rattle.vd_regions.specs.Found.{entered_in, in_place, declared_of, declared_in, round, apart_from, direct_from, means, given_by, given, is_alone, by_use_among, functions_of, opens, selected_from};
 
 use crate::entries::{Key, UseClause};
+use crate::keys::key_of;
 use crate::regions::Regions;
-use crate::tables::{key_of, takes_place_of};
+use crate::tables::takes_place_of;
 use std::alloc::{AllocError, Global};
 use vd_declarations::{Class, DeclId};
 
 impl Regions {
-    /// What was entered in a region under a name, the newest first, behind what is found.
-    pub(crate) fn add_entered(&self, key: &Key, found: &mut Vec<u32>) -> Result<(), AllocError>
-        ensures { OnOk result (found.new.items ≡ found.old.items ++ entered_in self.now key.now.region key.now.name.items) }
-    {
-        let mut left = self.newest(key);
-        while left > 0 {
-            found.push(left - 1)?;
-            left = self.links[left as usize - 1].before;
-        }
-        Ok(())
-    }
-
     /// Whether a declaration takes the place of an operator.
     fn replaces(&self, new: u32, old: u32) -> bool
         ensures { result ≡ replaces self.now new old }
     {
-        match (self.links.get(new as usize), self.links.get(old as usize)) {
+        match (self.catalog.get(new), self.catalog.get(old)) {
             (Some(one), Some(other)) => {
-                takes_place_of(
-                    one.entered.declaration.class,
-                    other.entered.declaration.class,
-                ) && old < new
-                    && self.have_same_profile(&other.entered.declaration, &one.entered.declaration)
+                takes_place_of(one.declaration.class, other.declaration.class)
+                    && old < new
+                    && self.have_same_profile(&other.declaration, &one.declaration)
             }
             _ => false,
         }
@@ -100,7 +87,7 @@ impl Regions {
         ensures { OnOk result (found.new.items ≡ found.old.items ++ declared_in self.now key.now.name.items key.now.region) }
     {
         let mut entered = Vec::new(alloc);
-        self.add_entered(key, &mut entered)?;
+        self.catalog.add_entered(key, &mut entered)?;
         let functions = self.functions_of(alloc, &entered)?;
         self.add_in_place(&functions, &entered, found)?;
         Ok(())
@@ -169,13 +156,8 @@ impl Regions {
     fn is_apart(&self, number: u32, other: u32) -> bool
         ensures { result ≡ apart self.now (declaration_at self.now number) (declaration_at self.now other) }
     {
-        match (
-            self.links.get(number as usize),
-            self.links.get(other as usize),
-        ) {
-            (Some(one), Some(other)) => {
-                self.are_apart(&one.entered.declaration, &other.entered.declaration)
-            }
+        match (self.catalog.get(number), self.catalog.get(other)) {
+            (Some(one), Some(other)) => self.are_apart(&one.declaration, &other.declaration),
             _ => false,
         }
     }
@@ -395,8 +377,8 @@ impl Regions {
     fn inside_of(&self, number: u32) -> Option<u32>
         ensures { result ≡ (declaration_at self.now number).inside }
     {
-        match self.links.get(number as usize) {
-            Some(link) => match link.entered.declaration.inside {
+        match self.catalog.get(number) {
+            Some(entered) => match entered.declaration.inside {
                 Some(region) => Some(region.number()),
                 None => None,
             },

@@ -1,8 +1,12 @@
 //! Declarative regions and what is visible in them. (IEEE 1076, scope and visibility)
 #![tactic(auto)]
 
+mod catalog;
 pub mod entries;
 mod finding;
+mod firsts;
+mod homes;
+mod keys;
 pub mod laws;
 pub mod regions;
 mod tables;
