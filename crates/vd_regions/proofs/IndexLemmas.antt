@@ -9,16 +9,17 @@ use Rattle.std.proofs.lemmas.Slice.Eq.{bytes_eq-Decides}
 use Rattle.std.proofs.lemmas.Bool.{cases_Bool, cases_eq, and_parts, eqb-true, ltb-true}
 use Rattle.std.proofs.lemmas.List.{get_or_append_left, get_or_at, length_push, map-append, length-map}
 use Rattle.vd_declarations.specs.Classes.{is_overloadable, is_predefined, is_copy}
+use Rattle.vd_region_tables.specs.Tables.{same_key, same_sort, AddsFirst}
 use Rattle.vd_regions.specs.declared.entries.Entered.{Entered}
-use Rattle.vd_regions.specs.declared.entries.Key.{Key}
+use Rattle.vd_region_tables.specs.declared.keys.Key.{Key}
 use Rattle.vd_regions.specs.declared.entries.Link.{Link}
-use Rattle.vd_regions.specs.declared.entries.Name.{Name}
-use Rattle.vd_regions.specs.declared.entries.Sort.{Sort}
+use Rattle.vd_region_tables.specs.declared.keys.Name.{Name}
+use Rattle.vd_region_tables.specs.declared.keys.Sort.{Sort}
 use Rattle.vd_regions.specs.declared.entries.Table.{Table}
 use Rattle.vd_regions.specs.Scopes.{nothing_entered, stands_in}
 use Rattle.vd_regions.specs.Homographs.{same_types}
-use Rattle.vd_regions.specs.Links.{newest_below, first_below, entered_of, same_key}
-use Rattle.vd_regions.specs.Indexes.{AreHomes, same_sort, AddsFirst, type_among, profile_among, has_sort, IsSortOf, HasItsSort, knows, settled_below, is_settled, AreFirsts, no_table, stands_alone_in, IsTable, AreTables, grown, IsIndexed}
+use Rattle.vd_regions.specs.Links.{newest_below, first_below, entered_of}
+use Rattle.vd_regions.specs.Indexes.{AreHomes, type_among, profile_among, has_sort, IsSortOf, HasItsSort, knows, settled_below, is_settled, AreFirsts, no_table, stands_alone_in, IsTable, AreTables, grown, IsIndexed}
 use Rattle.vd_regions.proofs.LinkLemmas.{newest_is, newest_small, newest_pushed, linked_push, option_or_none}
 
 -- ---- the first that passes a test

@@ -8,7 +8,7 @@ use Rattle.vd_declarations.specs.declared.classes.Class.TheVariants as class
 use Rattle.vd_declarations.specs.declared.declarations.Declaration.{Declaration}
 use Rattle.vd_declarations.specs.Classes.{is_overloadable, is_function, is_predefined, is_copy, library_of}
 use Rattle.vd_regions.specs.declared.entries.Entered.{Entered}
-use Rattle.vd_regions.specs.declared.entries.Sort.{Sort}
+use Rattle.vd_region_tables.specs.declared.keys.Sort.{Sort}
 use Rattle.vd_regions.specs.Scopes.{Scopes, nothing_entered, stands_in}
 use Rattle.vd_regions.specs.Homographs.{are_one, same_types, same_profile}
 use Rattle.vd_regions.specs.Found.{entered_below, clashes_in, first_in, earlier}

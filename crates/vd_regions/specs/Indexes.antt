@@ -1,22 +1,17 @@
 -- The tables by which declarations are found, as functions of their keys, and what they hold of the declarations that were entered.
-use Rattle.std.specs.Prelude.{◌≡◌, ℕ, zero, suc, ◌==◌, ◌<◌, nat_eq, nat_lt, Bool, true, false, IsTrue, ◌&&◌, not, List, [], ◌∷◌, map, length, Option, Some, None, if◌then◌else◌, slice_index_or}
+use Rattle.std.specs.Prelude.{◌≡◌, ℕ, zero, suc, ◌<◌, nat_lt, Bool, true, false, IsTrue, ◌&&◌, not, List, ◌∷◌, map, length, Option, Some, None, if◌then◌else◌, slice_index_or}
 use Rattle.std.specs.Bool.{beq}
 use Rattle.std.specs.List.{Contains, list_all}
-use Rattle.std.specs.Option.{option_eq, option_map_or, option_or, unwrap_or}
-use Rattle.std.specs.Str.{bytes_eq}
-use lib.Pointwise.{pointwise}
-use Rattle.indexmap.specs.IndexMap.{get}
+use Rattle.std.specs.Option.{option_or, unwrap_or}
+use Rattle.vd_region_tables.specs.declared.keys.Key.{Key}
+use Rattle.vd_region_tables.specs.declared.keys.Name.{Name}
+use Rattle.vd_region_tables.specs.declared.keys.Sort.{Sort}
 use Rattle.vd_declarations.specs.declared.declarations.Declaration.{Declaration}
 use Rattle.vd_declarations.specs.Classes.{is_overloadable, is_predefined, is_copy}
 use Rattle.vd_regions.specs.declared.entries.Entered.{Entered}
-use Rattle.vd_regions.specs.declared.entries.Key.{Key}
 use Rattle.vd_regions.specs.declared.entries.Link.{Link}
-use Rattle.vd_regions.specs.declared.entries.Name.{Name}
 use Rattle.vd_regions.specs.declared.entries.Note.{Note}
-use Rattle.vd_regions.specs.declared.entries.Sort.{Sort}
 use Rattle.vd_regions.specs.declared.entries.Table.{Table}
-use Rattle.vd_regions.specs.declared.firsts.Firsts.{Firsts}
-use Rattle.vd_regions.specs.declared.homes.Homes.{Homes}
 use Rattle.vd_regions.specs.Scopes.{nothing_entered, stands_in}
 use Rattle.vd_regions.specs.Homographs.{same_types}
 use Rattle.vd_regions.specs.Found.{earlier}
@@ -24,34 +19,12 @@ use Rattle.vd_regions.specs.Links.{newest_below, first_below, entered_of, AreLin
 
 -- ---- the regions of a name
 
--- as the derived comparison of names
-abbrev pub same_name : Name → Name → Bool
-same_name a b = bytes_eq a.bytes.items b.bytes.items
-
--- the regions that are kept for a name
-abbrev pub homes_of : Homes → Name → List ℕ
-homes_of homes name = option_map_or (λ regions. regions.items) (get same_name homes.map name) []
-
 -- each region that declares a name is kept for it. Others may be kept too.
 abbrev pub AreHomes : (Name → List ℕ) → List Entered → Type 0
 AreHomes homes es = (name : Name) (k : ℕ) → k < length es → (slice_index_or es k nothing_entered).declaration.name ≡ name.bytes.items
     → Contains (homes name) (slice_index_or es k nothing_entered).region
 
 -- ---- the first of a sort
-
--- as the derived comparison of sorts
-abbrev pub same_sort : Sort → Sort → Bool
-same_sort a b =
-    (a.region == b.region) && (bytes_eq a.name.items b.name.items
-    && (beq a.predefined b.predefined && (beq a.copy b.copy && pointwise (option_eq nat_eq) a.profile.items b.profile.items)))
-
-abbrev pub first_of : Firsts → Sort → Option ℕ
-first_of firsts sort = get same_sort firsts.map sort
-
--- a declaration more of a sort, or of none
-abbrev pub AddsFirst : (old new : Sort → Option ℕ) → Option Sort → ℕ → Type 0
-AddsFirst old new None id = (q : Sort) → new q ≡ old q
-AddsFirst old new (Some own) id = (q : Sort) → new q ≡ (if same_sort own q then Some (unwrap_or (old own) id) else old q)
 
 -- the type of a declaration, among these
 abbrev pub type_among : List Entered → ℕ → Option ℕ

@@ -1,11 +1,9 @@
 -- The tables as code keeps them: from a region and a name to the newest declaration, and from each declaration to the one before it
 -- in its table. Numbers count from 1 here, and 0 is none.
-use Rattle.std.specs.Prelude.{◌≡◌, ℕ, zero, suc, ◌<◌, ◌==◌, Bool, ◌&&◌, List, map, length, Option, Some, None, if◌then◌else◌, slice_index_or}
+use Rattle.std.specs.Prelude.{◌≡◌, ℕ, zero, suc, ◌<◌, Bool, List, map, length, Option, Some, None, if◌then◌else◌, slice_index_or}
 use Rattle.std.specs.Option.{option_or}
-use Rattle.std.specs.Str.{bytes_eq}
 use Rattle.vd_regions.specs.declared.entries.Entered.{Entered}
 use Rattle.vd_regions.specs.declared.entries.Link.{Link}
-use Rattle.vd_regions.specs.declared.entries.Key.{Key}
 use Rattle.vd_regions.specs.declared.entries.Space.{Space}
 use Rattle.vd_regions.specs.Scopes.{Region, nothing_entered, stands_in}
 
@@ -24,10 +22,6 @@ no_link = record { entered = nothing_entered; before = 0 }
 
 abbrev pub entered_of : List Link → List Entered
 entered_of links = map (λ l. l.entered) links
-
--- as the derived comparison of keys
-abbrev pub same_key : Key → Key → Bool
-same_key a b = (a.region == b.region) && bytes_eq a.name.items b.name.items
 
 abbrev pub region_of : Space → Region
 region_of p = record { outer = p.outer; continues = p.continues; closed = p.closed; uses = p.uses }

@@ -7,14 +7,12 @@ ghost use Rattle.vd_regions.specs.Found.{entered_below};
 ghost use Rattle.vd_regions.specs.Links.{first_below};
 ghost use Rattle.vd_regions.specs.Indexes.{type_among, profile_among, has_sort, IsSortOf, HasItsSort, knows, is_settled, IsTable, IsNoteOf};
 
-use crate::entries::{Entered, Key, Link, Name, Note, Sort, Table};
-use crate::firsts::Firsts;
-use crate::homes::Homes;
-use crate::keys::{key_of, narrow};
+use crate::entries::{Entered, Link, Note, Table, narrow};
 use indexmap::IndexMap;
 use std::alloc::{AllocError, Global};
 use std::marker::Model;
 use vd_declarations::{DeclId, Declaration};
+use vd_region_tables::{Firsts, Homes, Key, Name, Sort, key_of};
 
 /// All declarations, which contracts see as their list.
 #[derive(Drop)]
@@ -31,8 +29,9 @@ impl Model for Catalog {
     ghost use Rattle.std.specs.Prelude.{List};
     ghost use Rattle.indexmap.specs.IndexMap.{get};
     ghost use Rattle.vd_regions.specs.declared.entries.Entered.{Entered};
-    ghost use Rattle.vd_regions.specs.Links.{entered_of, same_key};
-    ghost use Rattle.vd_regions.specs.Indexes.{first_of, homes_of, IsIndexed};
+    ghost use Rattle.vd_region_tables.specs.Tables.{same_key, first_of, homes_of};
+    ghost use Rattle.vd_regions.specs.Links.{entered_of};
+    ghost use Rattle.vd_regions.specs.Indexes.{IsIndexed};
 
     ghost Value = { List Entered };
 

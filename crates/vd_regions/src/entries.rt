@@ -1,6 +1,6 @@
 //! What stands in a region.
 
-ghost use Rattle.std.specs.Prelude.{◌≡◌, ◌<◌, ◌+◌, ◌^◌, ◌++◌, ◌∷◌, [], map, OnOk, OnErr};
+ghost use Rattle.std.specs.Prelude.{◌≡◌, ◌<◌, ◌+◌, ◌^◌, ◌++◌, ◌∷◌, [], map, IfOk, OnOk, OnErr};
 ghost use Rattle.vd_regions.specs.Scopes.{Clause};
 ghost use Rattle.vd_regions.specs.Indexes.{grown};
 
@@ -8,6 +8,17 @@ use std::alloc::{AllocError, Global};
 use std::marker::Model;
 use vd_bytes::Text;
 use vd_declarations::Declaration;
+use vd_region_tables::{Key, Sort};
+
+/// A number that fits, unless there is no more room.
+pub(crate) fn narrow(number: usize) -> Result<u32, AllocError>
+    ensures { IfOk result (λ n. n ≡ number) }
+{
+    match u32::try_from(number) {
+        Ok(number) => Ok(number),
+        Err(_) => Err(AllocError),
+    }
+}
 
 /// A declaration and the region that it stands in.
 #[derive(Drop)]
@@ -31,13 +42,6 @@ impl Link {
     }
 }
 
-/// A table's key.
-#[derive(PartialEq, Eq, Hash, Drop)]
-pub(crate) struct Key {
-    pub(crate) region: u32,
-    pub(crate) name: Vec<u8>,
-}
-
 /// A table: its newest declaration, counted from 1, or 0 where there is none; its first; and the first that is not overloadable.
 #[derive(Clone, Copy)]
 pub(crate) struct Table {
@@ -59,23 +63,6 @@ impl Table {
             alone: self.alone.or(alone),
         }
     }
-}
-
-/// A name alone, as a table's key.
-#[derive(PartialEq, Eq, Hash, Drop)]
-pub(crate) struct Name {
-    pub(crate) bytes: Vec<u8>,
-}
-
-/// What overloadable declarations have in common that may clash: region and name, whether they are operators that types brought with
-/// them, or functions of an instance, and the types of result and parameters.
-#[derive(PartialEq, Eq, Hash, Drop)]
-pub(crate) struct Sort {
-    pub(crate) region: u32,
-    pub(crate) name: Vec<u8>,
-    pub(crate) predefined: bool,
-    pub(crate) copy: bool,
-    pub(crate) profile: Vec<Option<u32>>,
 }
 
 /// What is noted of a declaration before it is entered: its number, whether each one stands behind its parameters then, its sort, where

@@ -9,12 +9,12 @@ ghost use Rattle.vd_regions.specs.Homographs.{apart, replaces};
 ghost use Rattle.vd_regions.specs.Visible.{IsMeant};
 ghost use Rattle.vd_regions.specs.Found.{entered_in, in_place, declared_of, declared_in, round, apart_from, direct_from, means, given_by, given, is_alone, by_use_among, functions_of, opens, selected_from};
 
-use crate::entries::{Key, UseClause};
-use crate::keys::key_of;
+use crate::entries::UseClause;
 use crate::regions::Regions;
 use crate::tables::takes_place_of;
 use std::alloc::{AllocError, Global};
 use vd_declarations::{Class, DeclId};
+use vd_region_tables::{Key, key_of};
 
 impl Regions {
     /// Whether a declaration takes the place of an operator.

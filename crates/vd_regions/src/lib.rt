@@ -4,9 +4,6 @@
 mod catalog;
 pub mod entries;
 mod finding;
-mod firsts;
-mod homes;
-mod keys;
 pub mod laws;
 pub mod regions;
 mod tables;

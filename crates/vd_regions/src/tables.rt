@@ -8,11 +8,10 @@ ghost use Rattle.vd_regions.specs.Found.{first_in, earlier};
 ghost use Rattle.vd_regions.specs.Links.{first_below};
 ghost use Rattle.vd_regions.specs.Indexes.{has_sort, first_by_sorts, is_settled};
 
-use crate::entries::{Key, Sort};
-use crate::keys::key_of;
 use crate::regions::Regions;
 use std::alloc::AllocError;
 use vd_declarations::{Class, DeclId, Declaration, TypeId};
+use vd_region_tables::{Key, Sort, key_of};
 
 /// Whether a declaration of the first class takes the place of one of the second.
 pub(crate) fn takes_place_of(class: Class, old: Class) -> bool

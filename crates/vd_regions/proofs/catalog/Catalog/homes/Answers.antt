@@ -1,7 +1,8 @@
 use Rattle.std.proofs.Common.{get_or, sym, subst}
 use Rattle.std.specs.List.{Contains}
+use Rattle.vd_region_tables.specs.Tables.{homes_of}
 use Rattle.vd_regions.specs.Scopes.{nothing_entered}
-use Rattle.vd_regions.specs.Indexes.{AreHomes, homes_of}
+use Rattle.vd_regions.specs.Indexes.{AreHomes}
 use Rattle.vd_regions.proofs.catalog.Catalog.homes.Goals as goal
 
 pub returns : goal.returns

@@ -3,9 +3,10 @@ use Rattle.std.specs.List.{Contains}
 use Rattle.std.specs.Map.{lookup}
 use Rattle.indexmap.specs.IndexMap.{get}
 use Rattle.vd_declarations.specs.Classes.{is_overloadable}
+use Rattle.vd_region_tables.specs.Tables.{same_key, first_of, homes_of, AddsFirst}
 use Rattle.vd_regions.specs.declared.entries.Link.{Link}
-use Rattle.vd_regions.specs.Links.{same_key, entered_of}
-use Rattle.vd_regions.specs.Indexes.{first_of, homes_of, AddsFirst, grown, IsIndexed, IsNoteOf}
+use Rattle.vd_regions.specs.Links.{entered_of}
+use Rattle.vd_regions.specs.Indexes.{grown, IsIndexed, IsNoteOf}
 use Rattle.vd_regions.proofs.IndexLemmas.{still_indexed, now_indexed}
 use Rattle.vd_regions.proofs.catalog.Catalog.put.Goals as goal
 

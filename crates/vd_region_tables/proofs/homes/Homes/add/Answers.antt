@@ -1,4 +1,4 @@
-use Rattle.std.proofs.Common.{◌≡◌, ◌∷◌, [], ℕ, List, Option, Some, None, Vec, Global, rules, inl, inr, cond, sym, ap, subst, ◌∙◌}
+use Rattle.std.proofs.Common.{◌≡◌, ◌∷◌, [], ℕ, List, Option, Some, None, Vec, Global, rules, inl, inr, cond, arith, sym, ap, subst, ◌∙◌}
 use Rattle.std.specs.List.{Contains}
 use Rattle.std.specs.Map.{lookup}
 use Rattle.std.specs.Option.{option_map_or}
@@ -7,10 +7,12 @@ use Rattle.std.proofs.lemmas.Bool.{cases_Bool}
 use Rattle.std.proofs.lemmas.List.Elements.{Contains-append_left}
 use Rattle.std.proofs.lemmas.Slice.Eq.{bytes_eq-Decides}
 use Rattle.indexmap.specs.IndexMap.{get}
-use Rattle.vd_regions.specs.declared.entries.Name.{Name}
-use Rattle.vd_regions.specs.Indexes.{same_name}
-use Rattle.vd_regions.proofs.MemberLemmas.{no_member}
-use Rattle.vd_regions.proofs.homes.Homes.add.Goals as goal
+use Rattle.vd_region_tables.specs.declared.keys.Name.{Name}
+use Rattle.vd_region_tables.specs.Tables.{same_name}
+use Rattle.vd_region_tables.proofs.homes.Homes.add.Goals as goal
+
+no_member : (r : ℕ) → Contains [] r → ⊥
+no_member r (k, within, is) = omega (arith, within)
 
 -- where a name's value changes to one with all that was there
 kept : {X : Type 0} (items : X → List ℕ) (old new : Name → Option X) (own : Name) (w : X)

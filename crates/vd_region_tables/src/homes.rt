@@ -2,22 +2,22 @@
 
 ghost use Rattle.std.specs.Prelude.{◌≡◌, ℕ, [], List, IsTrue, OnOk, OnErr};
 ghost use Rattle.std.specs.List.{Contains};
-ghost use Rattle.vd_regions.specs.declared.entries.Name.{Name};
-ghost use Rattle.vd_regions.specs.Indexes.{homes_of};
+ghost use Rattle.vd_region_tables.specs.declared.keys.Name.{Name};
+ghost use Rattle.vd_region_tables.specs.Tables.{homes_of};
 
-use crate::entries::Name;
+use crate::keys::Name;
 use indexmap::IndexMap;
 use std::alloc::{AllocError, Global};
 
 /// For each name some regions.
 #[derive(Drop)]
-pub(crate) struct Homes {
+pub struct Homes {
     map: IndexMap<Name, Vec<u32>>,
 }
 
 impl Homes {
     /// No region for any name.
-    pub(crate) fn new(alloc: Global) -> Homes
+    pub fn new(alloc: Global) -> Homes
         ensures { (name : Name) → homes_of result name ≡ [] }
     {
         Homes {
@@ -26,7 +26,7 @@ impl Homes {
     }
 
     /// The regions of a name.
-    pub(crate) fn of(&self, name: &Name) -> &[u32]
+    pub fn of(&self, name: &Name) -> &[u32]
         ensures { result.now ≡ homes_of self.now name.now }
     {
         match self.map.get(name) {
@@ -36,7 +36,7 @@ impl Homes {
     }
 
     /// A region more for a name, where that is asked.
-    pub(crate) fn add_where(
+    pub fn add_where(
         &mut self,
         alloc: Global,
         asked: bool,

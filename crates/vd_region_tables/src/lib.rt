@@ -1,0 +1,12 @@
+//! The tables by which declarations are found, and their keys.
+#![tactic(auto)]
+
+pub mod firsts;
+pub mod homes;
+pub mod keys;
+pub mod used;
+
+pub use firsts::Firsts;
+pub use homes::Homes;
+pub use keys::{Key, Name, Sort, key_of};
+pub use used::Used;
