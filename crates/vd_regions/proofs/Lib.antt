@@ -1,3 +1,4 @@
+pub mod GivenLemmas
 pub mod HomographLemmas
 pub mod IndexLemmas
 pub mod LinkLemmas

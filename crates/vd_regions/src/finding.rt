@@ -7,14 +7,15 @@ ghost use Rattle.vd_declarations.specs.Classes.{is_overloadable, is_function};
 ghost use Rattle.vd_regions.specs.Scopes.{Scopes, region_at, declaration_at, meant, continued, chain};
 ghost use Rattle.vd_regions.specs.Homographs.{apart, replaces};
 ghost use Rattle.vd_regions.specs.Visible.{IsMeant};
-ghost use Rattle.vd_regions.specs.Found.{entered_in, in_place, declared_of, declared_in, round, apart_from, direct_from, means, given_by, given, is_alone, by_use_among, functions_of, opens, selected_from};
+ghost use Rattle.vd_regions.specs.Clauses.{clause_of, clauses_of};
+ghost use Rattle.vd_regions.specs.Found.{entered_in, in_place, declared_of, declared_in, round, apart_from, direct_from, means, given_by, given, is_given_by, is_given, given_from, given_among, is_alone, by_use_among, functions_of, opens, selected_from};
 
-use crate::entries::UseClause;
+use crate::clauses::UseClause;
 use crate::regions::Regions;
 use crate::tables::takes_place_of;
 use std::alloc::{AllocError, Global};
 use vd_declarations::{Class, DeclId};
-use vd_region_tables::{Key, key_of};
+use vd_region_tables::{Key, Name, key_of};
 
 impl Regions {
     /// Whether a declaration takes the place of an operator.
@@ -249,7 +250,7 @@ impl Regions {
         clause: &UseClause,
         found: &mut Vec<u32>,
     ) -> Result<(), AllocError>
-        ensures found { OnOk result (found.new.items ≡ found.old.items ++ given_by self.now key.old.name.items (record { from = clause.now.from; name = clause.now.name })) }
+        ensures found { OnOk result (found.new.items ≡ found.old.items ++ given_by self.now key.old.name.items (clause_of clause.now)) }
         ensures name { key.new.name.items ≡ key.old.name.items }
     {
         if self.is_closed(clause.from) && Regions::means(clause, &key.name) {
@@ -268,7 +269,7 @@ impl Regions {
         found: &mut Vec<u32>,
     ) -> Result<(), AllocError>
         ensures found { OnOk result (found.new.items ≡ found.old.items
-            ++ flat_map (given_by self.now key.old.name.items) (map (λ c. record { from = c.from; name = c.name }) clauses.now)) }
+            ++ flat_map (given_by self.now key.old.name.items) (clauses_of clauses.now)) }
         ensures name { key.new.name.items ≡ key.old.name.items }
     {
         for clause in clauses {
@@ -279,7 +280,7 @@ impl Regions {
 
     /// The use clauses of a region.
     fn uses_of(&self, region: u32) -> &[UseClause]
-        ensures { map (λ c. record { from = c.from; name = c.name }) result.now ≡ (region_at self.now region).uses }
+        ensures { clauses_of result.now ≡ (region_at self.now region).uses }
     {
         match self.spaces.get(region as usize) {
             Some(space) => space.uses.as_slice(),
@@ -288,7 +289,7 @@ impl Regions {
     }
 
     /// What the use clauses of some regions give of the key's name.
-    pub(crate) fn add_given(
+    fn add_given(
         &self,
         alloc: Global,
         key: &mut Key,
@@ -302,6 +303,95 @@ impl Regions {
             self.add_given_by_all(alloc, key, self.uses_of(*region), found)?;
         }
         Ok(())
+    }
+
+    /// How many use clauses stand in some regions.
+    fn count_clauses(&self, regions: &[u32]) -> usize {
+        let mut count: usize = 0;
+        for region in regions {
+            count = count.saturating_add(self.uses_of(*region).len());
+        }
+        count
+    }
+
+    /// Whether a clause of a region gives the name of the key's region.
+    fn region_gives(&self, region: u32, key: &Key) -> bool
+        ensures { result ≡ is_given_by (region_at self.now region).uses key.now.name.items key.now.region }
+    {
+        match self.spaces.get(region as usize) {
+            Some(space) => space.uses.gives(key),
+            None => false,
+        }
+    }
+
+    /// Whether a clause of one of these regions does.
+    fn is_given(&self, regions: &[u32], key: &Key) -> bool
+        ensures { result ≡ is_given self.now key.now.name.items regions.now key.now.region }
+    {
+        for region in regions {
+            if self.region_gives(*region, key) {
+                return true;
+            }
+        }
+        false
+    }
+
+    /// What use clauses of these regions give of what the key's region declares under its name.
+    fn add_given_from(
+        &self,
+        alloc: Global,
+        key: &Key,
+        regions: &[u32],
+        found: &mut Vec<u32>,
+    ) -> Result<(), AllocError>
+        ensures { OnOk result (found.new.items ≡ found.old.items ++ given_from self.now key.now.name.items regions.now key.now.region) }
+    {
+        if self.is_closed(key.region) && self.is_given(regions, key) {
+            self.add_declared(alloc, key, found)?;
+        }
+        Ok(())
+    }
+
+    /// The same of several other regions.
+    fn add_given_among(
+        &self,
+        alloc: Global,
+        key: &mut Key,
+        regions: &[u32],
+        froms: &[u32],
+        found: &mut Vec<u32>,
+    ) -> Result<(), AllocError>
+        ensures found { OnOk result (found.new.items ≡ found.old.items ++ given_among self.now key.old.name.items regions.now froms.now) }
+        ensures name { key.new.name.items ≡ key.old.name.items }
+    {
+        for from in froms {
+            key.region = *from;
+            self.add_given_from(alloc, key, regions, found)?;
+        }
+        Ok(())
+    }
+
+    /// What the use clauses of some regions give of the key's name, in any order. Either each of the clauses is asked, or each region that
+    /// declares the name, whichever are fewer.
+    pub(crate) fn gather_given(
+        &self,
+        alloc: Global,
+        key: &mut Key,
+        regions: &[u32],
+    ) -> Result<Vec<u32>, AllocError>
+        ensures found { IfOk result (λ found. (k : ℕ) → Contains found.items k ↔ Contains (given self.now key.old.name.items regions.now) k) }
+        ensures name { key.new.name.items ≡ key.old.name.items }
+    {
+        let bytes = Vec::from_slice(alloc, &key.name)?;
+        let name = Name { bytes };
+        let homes = self.catalog.homes(&name);
+        let mut found = Vec::new(alloc);
+        if self.count_clauses(regions) <= homes.len() {
+            self.add_given(alloc, key, regions, &mut found)?;
+            return Ok(found);
+        }
+        self.add_given_among(alloc, key, regions, homes, &mut found)?;
+        Ok(found)
     }
 
     /// Whether all of these are overloadable.

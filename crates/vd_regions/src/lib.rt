@@ -2,6 +2,7 @@
 #![tactic(auto)]
 
 mod catalog;
+mod clauses;
 pub mod entries;
 mod finding;
 pub mod laws;

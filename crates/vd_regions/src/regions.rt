@@ -10,7 +10,8 @@ ghost use Rattle.vd_regions.specs.Visible.{IsVisible, IsSelected, IsMeant};
 ghost use Rattle.vd_regions.specs.InOrder.{visible_in, selected_in_order};
 
 use crate::catalog::Catalog;
-use crate::entries::{Entered, Space, UseClause, UseClauses, narrow};
+use crate::clauses::{UseClause, UseClauses};
+use crate::entries::{Entered, Space, narrow};
 use crate::finding::put_in_order;
 use std::alloc::{AllocError, Global};
 use std::marker::Model;
@@ -233,8 +234,7 @@ impl Regions {
         let mut key = key_of(alloc, 0, name.as_bytes())?;
         let mut around = Vec::new(alloc);
         self.add_round(alloc, &mut key, &regions, &mut around)?;
-        let mut given = Vec::new(alloc);
-        self.add_given(alloc, &mut key, &regions, &mut given)?;
+        let mut given = self.gather_given(alloc, &mut key, &regions)?;
         put_in_order(&mut given)?;
         let mut found = Vec::new(alloc);
         self.add_direct(alloc, &mut key, &regions, &mut found)?;
