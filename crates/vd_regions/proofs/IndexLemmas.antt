@@ -15,11 +15,12 @@ use Rattle.vd_region_tables.specs.declared.keys.Key.{Key}
 use Rattle.vd_regions.specs.declared.entries.Link.{Link}
 use Rattle.vd_region_tables.specs.declared.keys.Name.{Name}
 use Rattle.vd_region_tables.specs.declared.keys.Sort.{Sort}
-use Rattle.vd_regions.specs.declared.entries.Table.{Table}
+use Rattle.vd_region_tables.specs.declared.table.Table.{Table}
 use Rattle.vd_regions.specs.Scopes.{nothing_entered, stands_in}
 use Rattle.vd_regions.specs.Homographs.{same_types}
 use Rattle.vd_regions.specs.Links.{newest_below, first_below, entered_of}
-use Rattle.vd_regions.specs.Indexes.{AreHomes, type_among, profile_among, has_sort, IsSortOf, HasItsSort, knows, settled_below, is_settled, AreFirsts, no_table, stands_alone_in, IsTable, AreTables, grown, IsIndexed}
+use Rattle.vd_region_tables.specs.Growth.{grown}
+use Rattle.vd_regions.specs.Indexes.{AreHomes, type_among, profile_among, has_sort, IsSortOf, HasItsSort, knows, settled_below, is_settled, AreFirsts, no_table, stands_alone_in, IsTable, AreTables, IsIndexed}
 use Rattle.vd_regions.proofs.LinkLemmas.{newest_is, newest_small, newest_pushed, linked_push, option_or_none}
 
 -- ---- the first that passes a test

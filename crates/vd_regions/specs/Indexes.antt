@@ -2,16 +2,17 @@
 use Rattle.std.specs.Prelude.{◌≡◌, ℕ, zero, suc, ◌<◌, nat_lt, Bool, true, false, IsTrue, ◌&&◌, not, List, ◌∷◌, map, length, Option, Some, None, if◌then◌else◌, slice_index_or}
 use Rattle.std.specs.Bool.{beq}
 use Rattle.std.specs.List.{Contains, list_all}
-use Rattle.std.specs.Option.{option_or, unwrap_or}
+use Rattle.std.specs.Option.{unwrap_or}
 use Rattle.vd_region_tables.specs.declared.keys.Key.{Key}
 use Rattle.vd_region_tables.specs.declared.keys.Name.{Name}
 use Rattle.vd_region_tables.specs.declared.keys.Sort.{Sort}
+use Rattle.vd_region_tables.specs.declared.table.Table.{Table}
+use Rattle.vd_region_tables.specs.Growth.{grown}
 use Rattle.vd_declarations.specs.declared.declarations.Declaration.{Declaration}
 use Rattle.vd_declarations.specs.Classes.{is_overloadable, is_predefined, is_copy}
 use Rattle.vd_regions.specs.declared.entries.Entered.{Entered}
 use Rattle.vd_regions.specs.declared.entries.Link.{Link}
 use Rattle.vd_regions.specs.declared.entries.Note.{Note}
-use Rattle.vd_regions.specs.declared.entries.Table.{Table}
 use Rattle.vd_regions.specs.Scopes.{nothing_entered, stands_in}
 use Rattle.vd_regions.specs.Homographs.{same_types}
 use Rattle.vd_regions.specs.Found.{earlier}
@@ -95,14 +96,6 @@ pub record IsTable (es : List Entered) (region : ℕ) (name : List ℕ) (table :
 
 abbrev pub AreTables : (Key → Option Table) → List Entered → Type 0
 AreTables tables es = (key : Key) → IsTable es key.region key.name.items (unwrap_or (tables key) no_table)
-
--- a table with a declaration more
-abbrev pub grown : Table → ℕ → Bool → Table
-grown table id overloadable = record {
-  newest = suc id;
-  first = option_or table.first (Some id);
-  alone = option_or table.alone (if overloadable then None else Some id);
-}
 
 -- ---- all of them
 

@@ -7,12 +7,13 @@ ghost use Rattle.vd_regions.specs.Found.{entered_below};
 ghost use Rattle.vd_regions.specs.Links.{first_below};
 ghost use Rattle.vd_regions.specs.Indexes.{type_among, profile_among, has_sort, IsSortOf, HasItsSort, knows, is_settled, IsTable, IsNoteOf};
 
-use crate::entries::{Entered, Link, Note, Table, narrow};
+use crate::entries::{Entered, Link, Note};
 use indexmap::IndexMap;
 use std::alloc::{AllocError, Global};
 use std::marker::Model;
 use vd_declarations::{DeclId, Declaration};
-use vd_region_tables::{Firsts, Homes, Key, Name, Sort, key_of};
+use vd_region_tables::numbers::narrow;
+use vd_region_tables::{Firsts, Homes, Key, Name, Sort, Table, key_of};
 
 /// All declarations, which contracts see as their list.
 #[derive(Drop)]

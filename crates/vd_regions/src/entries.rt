@@ -1,22 +1,10 @@
 //! What stands in a region.
 
-ghost use Rattle.std.specs.Prelude.{◌≡◌, ◌<◌, ◌+◌, ◌^◌, IfOk};
-ghost use Rattle.vd_regions.specs.Indexes.{grown};
+ghost use Rattle.std.specs.Prelude.{◌≡◌};
 
 use crate::clauses::UseClauses;
-use std::alloc::AllocError;
 use vd_declarations::Declaration;
-use vd_region_tables::{Key, Sort};
-
-/// A number that fits, unless there is no more room.
-pub(crate) fn narrow(number: usize) -> Result<u32, AllocError>
-    ensures { IfOk result (λ n. n ≡ number) }
-{
-    match u32::try_from(number) {
-        Ok(number) => Ok(number),
-        Err(_) => Err(AllocError),
-    }
-}
+use vd_region_tables::{Key, Sort, Table};
 
 /// A declaration and the region that it stands in.
 #[derive(Drop)]
@@ -37,29 +25,6 @@ impl Link {
         ensures { result ≡ record { entered = entered; before = before } }
     {
         Link { entered, before }
-    }
-}
-
-/// A table: its newest declaration, counted from 1, or 0 where there is none; its first; and the first that is not overloadable.
-#[derive(Clone, Copy)]
-pub(crate) struct Table {
-    pub(crate) newest: u32,
-    pub(crate) first: Option<u32>,
-    pub(crate) alone: Option<u32>,
-}
-
-impl Table {
-    /// With a declaration more, whose number is no greatest one.
-    pub(crate) fn with(self, id: u32, overloadable: bool) -> Table
-        requires { id + 1 < 2 ^ 32 }
-        ensures { result ≡ grown self id overloadable }
-    {
-        let alone = if overloadable { None } else { Some(id) };
-        Table {
-            newest: id + 1,
-            first: self.first.or(Some(id)),
-            alone: self.alone.or(alone),
-        }
     }
 }
 

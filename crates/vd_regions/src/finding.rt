@@ -15,6 +15,7 @@ use crate::regions::Regions;
 use crate::tables::takes_place_of;
 use std::alloc::{AllocError, Global};
 use vd_declarations::{Class, DeclId};
+use vd_region_tables::numbers::{are_all, has, put_in_order};
 use vd_region_tables::{Key, Name, key_of};
 
 impl Regions {
@@ -535,40 +536,6 @@ impl Regions {
         let ids = ids_of(alloc, &meanings)?;
         Ok(ids)
     }
-}
-
-/// Whether one of these is a number.
-fn has(some: &[u32], number: u32) -> bool
-    ensures { result ≡ list_any (λ k. k == number) some.now }
-{
-    for one in some {
-        if *one == number {
-            return true;
-        }
-    }
-    false
-}
-
-/// Whether each of these is a number. Of different ones the second isn't, at the latest.
-fn are_all(some: &[u32], number: u32) -> bool
-    ensures { result ≡ list_all (λ k. k == number) some.now }
-{
-    for one in some {
-        if *one != number {
-            return false;
-        }
-    }
-    true
-}
-
-/// The numbers from the least to the greatest, each once.
-pub(crate) fn put_in_order(found: &mut Vec<u32>) -> Result<(), AllocError>
-    ensures ascending { OnOk result (IsStrictlyIncreasing found.new.items) }
-    ensures same { OnOk result ((k : ℕ) → Contains found.new.items k ↔ Contains found.old.items k) }
-{
-    found.sort()?;
-    found.dedup();
-    Ok(())
 }
 
 /// Numbers as declarations.

@@ -11,13 +11,13 @@ ghost use Rattle.vd_regions.specs.InOrder.{visible_in, selected_in_order};
 
 use crate::catalog::Catalog;
 use crate::clauses::{UseClause, UseClauses};
-use crate::entries::{Entered, Space, narrow};
-use crate::finding::put_in_order;
+use crate::entries::{Entered, Space};
 use std::alloc::{AllocError, Global};
 use std::marker::Model;
 use vd_bytes::Text;
 use vd_declarations::{DeclId, Declaration, RegionId};
 use vd_region_tables::key_of;
+use vd_region_tables::numbers::{narrow, put_in_order};
 
 /// Regions inside one another, the declarations in them, and their use clauses. Numbers of regions and declarations are never
 /// given back.

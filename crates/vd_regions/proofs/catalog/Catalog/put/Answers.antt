@@ -6,7 +6,8 @@ use Rattle.vd_declarations.specs.Classes.{is_overloadable}
 use Rattle.vd_region_tables.specs.Tables.{same_key, first_of, homes_of, AddsFirst}
 use Rattle.vd_regions.specs.declared.entries.Link.{Link}
 use Rattle.vd_regions.specs.Links.{entered_of}
-use Rattle.vd_regions.specs.Indexes.{grown, IsIndexed, IsNoteOf}
+use Rattle.vd_region_tables.specs.Growth.{grown}
+use Rattle.vd_regions.specs.Indexes.{IsIndexed, IsNoteOf}
 use Rattle.vd_regions.proofs.IndexLemmas.{still_indexed, now_indexed}
 use Rattle.vd_regions.proofs.catalog.Catalog.put.Goals as goal
 

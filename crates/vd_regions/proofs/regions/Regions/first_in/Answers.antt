@@ -2,7 +2,7 @@ use Rattle.std.proofs.Common.{◌≡◌, ℕ, List, false, Option, Some, None, l
 use Rattle.std.specs.Option.{is_some}
 use Rattle.vd_declarations.specs.Classes.{is_function, is_copy}
 use Rattle.vd_regions.specs.declared.entries.Entered.{Entered}
-use Rattle.vd_regions.specs.declared.entries.Table.{Table}
+use Rattle.vd_region_tables.specs.declared.table.Table.{Table}
 use Rattle.vd_regions.specs.Scopes.{Scopes}
 use Rattle.vd_regions.specs.Found.{earlier}
 use Rattle.vd_regions.specs.Links.{first_below}
