@@ -38,7 +38,8 @@ impl Model for Catalog {
 
     ghost view = { λ a. entered_of a.links.items };
 
-    // Each table leads to its newest declaration, and each declaration to the one before it in its table.
+    // Each table leads to its newest declaration, and each declaration to the one before it in its table; the first of each table and sort
+    // is noted, and each region that declares a name is kept for it.
     ghost invariant = { λ a. IsIndexed a.links.items (get same_key a.tables) (first_of a.firsts) a.settled (homes_of a.homes) };
 }
 

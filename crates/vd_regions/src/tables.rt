@@ -181,8 +181,8 @@ impl Regions {
         }
     }
 
-    /// The first overloadable declaration beside which a new one of this sort may not stand, which may be a function that somebody wrote,
-    /// and one that an instance declares.
+    /// The first overloadable declaration of a sort's profile beside which a new one may not stand. `function` and `copy` say whether the
+    /// new one is a function that somebody wrote, and one that an instance declares.
     fn first_of_sorts(&self, sort: &mut Sort, function: bool, copy: bool) -> Option<u32>
         requires { IsTrue (is_settled self.now.entered) }
         ensures { result ≡ first_by_sorts self.now.entered sort.old function copy }
