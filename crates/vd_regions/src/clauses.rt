@@ -1,6 +1,6 @@
 //! Use clauses.
 
-ghost use Rattle.std.specs.Prelude.{◌≡◌, ◌++◌, ◌∷◌, ◌||◌, [], length, OnOk, OnErr};
+ghost use Rattle.std.specs.Prelude.{◌≡◌, ◌++◌, ◌∷◌, ◌||◌, [], OnOk, OnErr};
 ghost use Rattle.vd_region_tables.specs.declared.keys.Key.{Key};
 ghost use Rattle.vd_region_tables.specs.Tables.{is_used};
 ghost use Rattle.vd_regions.specs.Clauses.{clause_of, clauses_of};
@@ -63,13 +63,6 @@ impl UseClauses {
             unreachable!()
         };
         Ok(())
-    }
-
-    /// How many there are.
-    pub(crate) fn len(&self) -> usize
-        ensures { result ≡ length self.now }
-    {
-        self.clauses.len()
     }
 
     /// The clauses.
