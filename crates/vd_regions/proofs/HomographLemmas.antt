@@ -7,7 +7,8 @@ use Rattle.vd_regions.specs.declared.entries.Entered.{Entered}
 use Rattle.vd_regions.specs.Scopes.{Scopes, nothing_entered, stands_in, region_at}
 use Rattle.vd_regions.specs.Homographs.{may_stand_beside, clashes, homograph}
 use Rattle.vd_regions.specs.Found.{clashes_in, first_in, earlier}
-use Rattle.vd_regions.proofs.LinkLemmas.{first_below, position_below}
+use Rattle.vd_regions.specs.Links.{first_below}
+use Rattle.vd_regions.proofs.LinkLemmas.{position_below}
 
 -- ---- the first of two kinds
 
@@ -45,7 +46,7 @@ one_more k (Some m) None p true is js = ap Some (sym (min_first m k is))
 one_more k (Some m) None p false is js = refl
 one_more k (Some m) (Some n) p q is js = refl
 
-first_either : (p q : Entered → Bool) (es : List Entered) (k : ℕ)
+pub first_either : (p q : Entered → Bool) (es : List Entered) (k : ℕ)
     → first_below (λ e. p e || q e) es k ≡ earlier (first_below p es k) (first_below q es k)
 first_either p q es zero = refl
 first_either p q es (suc k) =
@@ -53,7 +54,7 @@ first_either p q es (suc k) =
     ∙ one_more k (first_below p es k) (first_below q es k) (p (get_or es k nothing_entered)) (q (get_or es k nothing_entered))
     (first_is_below p es k) (first_is_below q es k)
 
-first_same : (p q : Entered → Bool) → ((e : Entered) → p e ≡ q e) → (es : List Entered) (k : ℕ) → first_below p es k ≡ first_below q es k
+pub first_same : (p q : Entered → Bool) → ((e : Entered) → p e ≡ q e) → (es : List Entered) (k : ℕ) → first_below p es k ≡ first_below q es k
 first_same p q same es zero = refl
 first_same p q same es (suc k) =
     ap (λ o. option_or o (if p (get_or es k nothing_entered) then Some k else None)) (first_same p q same es k)

@@ -1,4 +1,6 @@
+pub mod GivenLemmas
 pub mod HomographLemmas
+pub mod IndexLemmas
 pub mod LinkLemmas
 pub mod ListLemmas
 pub mod MeaningLemmas
@@ -6,5 +8,6 @@ pub mod MemberLemmas
 pub mod OrderLemmas
 pub mod PlaceLemmas
 pub mod ProfileLemmas
+pub mod SortLemmas
 pub mod SpaceLemmas
 pub mod VisibleLemmas

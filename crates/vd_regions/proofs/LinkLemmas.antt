@@ -1,6 +1,6 @@
 -- What the links from declaration to declaration pass over.
-use Rattle.std.proofs.Common.{◌≡◌, ◌≤◌, ◌<◌, ◌+◌, ◌-◌, ◌&&◌, not, nat_eq, nat_lt, inl, inr, ℕ, zero, suc, Bool, true, false, cond, List, [], ◌∷◌, ◌++◌, length, take, position, get_or, if◌then◌else◌, Option, Some, None, refl, sym, ap, subst, ◌∙◌, arith}
-use Rattle.std.specs.Option.{unwrap_or, option_or}
+use Rattle.std.proofs.Common.{◌≡◌, ◌≤◌, ◌<◌, ◌+◌, ◌-◌, not, nat_eq, nat_lt, inl, inr, ℕ, zero, suc, Bool, true, false, cond, List, [], ◌∷◌, ◌++◌, length, take, position, get_or, if◌then◌else◌, Option, Some, None, refl, sym, ap, subst, ◌∙◌, arith}
+use Rattle.std.specs.Option.{option_or}
 use Rattle.std.specs.List.{position_or_len}
 use Rattle.std.proofs.Math.Seq.{take-suc}
 use Rattle.std.proofs.lemmas.List.Folds.{position_or_len_push}
@@ -10,10 +10,9 @@ use Rattle.std.proofs.lemmas.Bool.{cases_Bool, cases_eq, cases_lt, and_parts, eq
 use Rattle.std.proofs.lemmas.List.{append-nil, take_all, length-take-le, get_or_append_left, get_or_at, length_push, get_or_read, get_or-map, map-append, length-map}
 use Rattle.vd_regions.specs.declared.entries.Entered.{Entered}
 use Rattle.vd_regions.specs.declared.entries.Link.{Link}
-use Rattle.vd_regions.specs.declared.entries.Key.{Key}
 use Rattle.vd_regions.specs.Scopes.{Scopes, nothing_entered, stands_in, continued, chain_of, region_at}
 use Rattle.vd_regions.specs.Found.{entered_below}
-use Rattle.vd_regions.specs.Links.{newest_below, table_of, entered_of, no_link, same_key}
+use Rattle.vd_regions.specs.Links.{newest_below, first_below, table_of, entered_of, no_link, AreLinked}
 
 module _ (test : Entered → Bool) (es : List Entered) where
   newest_in : (k : ℕ) → test (get_or es k nothing_entered) ≡ true → newest_below test es (suc k) ≡ suc k
@@ -60,11 +59,6 @@ pub record IsLink (es : List Entered) (region : ℕ) (name : List ℕ) (m : ℕ)
   pub entered : get_or es m nothing_entered ≡ link.entered
   pub inside : stands_in region name link.entered ≡ true
   pub before : link.before ≡ newest_below (stands_in region name) es m
-
--- each link leads to the declaration before it in its table
-abbrev pub AreLinked : List Link → Type 0
-AreLinked links = (k : ℕ) → k < length links → (get_or links k no_link).before
-    ≡ newest_below (table_of (get_or links k no_link).entered) (entered_of links) k
 
 pub link_at : (links : List Link) → AreLinked links → (region : ℕ) (name : List ℕ) (m : ℕ) (link : Link) → m < length links
     → newest_below (stands_in region name) (entered_of links) (suc m) ≡ suc m → link ≡ get_or links m link
@@ -119,27 +113,11 @@ goes_on es region name left link some is newest =
           ∙ ap (λ ks. (left - 1) ∷ ks) (entered_skip (stands_in region name) es (left - 1) ∙ ap (entered_below (stands_in region name) es) (sym is.before));
     }
 
--- where a walk begins
-pub head_is : (links : List Link) (es : List Entered) (test : Entered → Bool) (head : ℕ) → entered_of links ≡ es
-    → head ≡ newest_below test (entered_of links) (length links) → head ≡ newest_below test es (length es)
-head_is links es test head same is =
-    is ∙ ap (λ fs. newest_below test fs (length links)) same
-    ∙ ap (newest_below test es) (sym (length-map links (λ (l : Link). l.entered)) ∙ ap length same)
-
 -- ---- the first clash
-
--- the first that passes a test among the first k, from the last of them down
-abbrev pub first_below : (Entered → Bool) → List Entered → ℕ → Option ℕ
-first_below test es zero = None
-first_below test es (suc k) = option_or (first_below test es k) (if test (get_or es k nothing_entered) then Some k else None)
 
 pub option_or_none : {X : Type 0} (o : Option X) → option_or o None ≡ o
 option_or_none None = refl
 option_or_none (Some x) = refl
-
-option_or_assoc : {X : Type 0} (a b c : Option X) → option_or (option_or a b) c ≡ option_or a (option_or b c)
-option_or_assoc None b c = refl
-option_or_assoc (Some x) b c = refl
 
 placed : (n m : ℕ) → Option ℕ
 placed n m = cond (nat_lt n m) (Some n) None
@@ -195,31 +173,6 @@ position_below test es = ap (position test) (sym (take_all (length es) es (omega
         ∙ ap (λ o. option_or o (if test (get_or es k nothing_entered) then Some (length (take k es)) else None)) (below k le)
         ∙ ap (λ n. option_or (first_below test es k) (if test (get_or es k nothing_entered) then Some n else None)) (length-take-le k es le)
 
--- a test of what stands in a table skips all that doesn't
-pub first_skip : (table test : Entered → Bool) (es : List Entered) (k : ℕ)
-    → first_below (λ e. table e && test e) es k ≡ first_below (λ e. table e && test e) es (newest_below table es k)
-first_skip table test es zero = refl
-first_skip table test es (suc k) = elim (cases_Bool (table (get_or es k nothing_entered))) [
-  | inl t ↦ ap (first_below (λ e. table e && test e) es) (sym (newest_in table es k t))
-  | inr f ↦ ap (λ b. option_or (first_below (λ e. table e && test e) es k) (if b && test (get_or es k nothing_entered) then Some k else None)) f
-      ∙ option_or_none (first_below (λ e. table e && test e) es k)
-      ∙ first_skip table test es k ∙ ap (first_below (λ e. table e && test e) es) (sym (newest_out table es k f))
-]
-
--- the search takes one link
-pub first_step : (region : ℕ) (name : List ℕ) (test : Entered → Bool) (es : List Entered) (m : ℕ) (link : Link) (found all : Option ℕ)
-    → IsLink es region name m link → option_or (first_below (λ e. stands_in region name e && test e) es (suc m)) found ≡ all
-    → option_or (first_below (λ e. stands_in region name e && test e) es link.before) (option_or (if test link.entered then Some m else None) found) ≡ all
-first_step region name test es m link found all is so_far =
-    let clash : Entered → Bool = λ e. stands_in region name e && test e in
-    let here : (stands_in region name (get_or es m nothing_entered) && test (get_or es m nothing_entered)) ≡ test link.entered =
-    ap (λ e. stands_in region name e && test e) is.entered ∙ ap (λ b. b && test link.entered) is.inside in
-    sym (option_or_assoc (first_below (λ e. stands_in region name e && test e) es link.before) (if test link.entered then Some m else None) found)
-    ∙ ap (λ o. option_or (option_or o (if test link.entered then Some m else None)) found)
-    (ap (first_below (λ e. stands_in region name e && test e) es) is.before ∙ sym (first_skip (stands_in region name) test es m))
-    ∙ ap (λ b. option_or (option_or (first_below (λ e. stands_in region name e && test e) es m) (if b then Some m else None)) found) (sym here)
-    ∙ so_far
-
 -- ---- a declaration more
 
 newest_push : (test : Entered → Bool) (es : List Entered) (e : Entered) (k : ℕ) → k ≤ length es
@@ -231,41 +184,11 @@ newest_push test es e (suc k) within =
     ap (λ x. if test x then suc k else newest_below test (es ++ e ∷ []) k) (get_or_append_left es (e ∷ []) nothing_entered k lt)
     ∙ ap (λ n. if test (get_or es k nothing_entered) then suc k else n) (newest_push test es e k le)
 
-newest_pushed : (test : Entered → Bool) (es : List Entered) (e : Entered)
+pub newest_pushed : (test : Entered → Bool) (es : List Entered) (e : Entered)
     → newest_below test (es ++ e ∷ []) (suc (length es)) ≡ (if test e then suc (length es) else newest_below test es (length es))
 newest_pushed test es e =
     ap (λ x. if test x then suc (length es) else newest_below test (es ++ e ∷ []) (length es)) (get_or_at es e [] nothing_entered (length es) refl)
     ∙ ap (λ n. if test e then suc (length es) else n) (newest_push test es e (length es) (omega arith))
-
--- where `head` is what the tables lead to, by a table's key
-abbrev pub AreHeads : (Key → Option ℕ) → List Link → Type 0
-AreHeads head links = (key : Key) → unwrap_or (head key) 0
-    ≡ newest_below (stands_in key.region key.name.items) (entered_of links) (length links)
-
-pub heads_push : (old new : Key → Option ℕ) (links : List Link) (link : Link) (own : Key)
-    → own.region ≡ link.entered.region → own.name.items ≡ link.entered.declaration.name → AreHeads old links
-    → ((q : Key) → new q ≡ cond (same_key own q) (Some (length links + 1)) (old q))
-    → AreHeads new (links ++ link ∷ [])
-heads_push old new links link own same_region same_name heads updated q =
-    let test : Entered → Bool = stands_in q.region q.name.items in
-    ap (λ o. unwrap_or o 0) (updated q)
-    ∙ ap (λ r. unwrap_or (cond (key_test r own.name.items) (Some (length links + 1)) (old q)) 0) same_region
-    ∙ ap (λ n. unwrap_or (cond (key_test link.entered.region n) (Some (length links + 1)) (old q)) 0) same_name
-    ∙ over (stands_in q.region q.name.items link.entered)
-    ∙ sym (newest_pushed (stands_in q.region q.name.items) (entered_of links) link.entered
-    ∙ ap (λ n. if stands_in q.region q.name.items link.entered then suc n else newest_below (stands_in q.region q.name.items) (entered_of links) n)
-    (length-map links (λ l. l.entered)))
-    ∙ ap (λ es. newest_below (stands_in q.region q.name.items) es (suc (length (entered_of links)))) (sym (map-append (λ (l : Link). l.entered) links (link ∷ [])))
-    ∙ ap (λ n. newest_below (stands_in q.region q.name.items) (entered_of (links ++ link ∷ [])) n)
-    (ap suc (length-map links (λ l. l.entered)) ∙ omega (arith, length_push links link))
-  where
-    key_test : ℕ → List ℕ → Bool
-    key_test r n = stands_in q.region q.name.items (record { region = r; declaration = record link.entered.declaration { name = n } })
-
-    over : (b : Bool) → unwrap_or (cond b (Some (length links + 1)) (old q)) 0
-        ≡ (if b then suc (length links) else newest_below (stands_in q.region q.name.items) (entered_of links) (length links))
-    over true = omega arith
-    over false = heads q
 
 pub linked_push : (links : List Link) (link : Link) → AreLinked links
     → link.before ≡ newest_below (table_of link.entered) (entered_of links) (length links)

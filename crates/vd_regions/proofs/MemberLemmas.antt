@@ -75,6 +75,20 @@ module _ {X : Type 0} where
     | inr not_here ↦ rw not_here (to_none p xs (λ y c. each y (cons_there x xs y c)))
   ]
 
+  -- some pass a test
+  pub from_any : (p : X → Bool) (xs : List X) → list_any p xs ≡ true → (x : X) × (Contains xs x × (p x ≡ true))
+  from_any p [] some = absurd (true≢false (sym some))
+  from_any p (x ∷ xs) some = elim (cases_Bool (p x)) [
+    | inl here ↦ (x, (cons_here x xs, here))
+    | inr not_here ↦ let rest = from_any p xs (sym (rw not_here refl) ∙ some) in (rest.0, (cons_there x xs rest.0 rest.1.0, rest.1.1))
+  ]
+
+  pub in_any : (p : X → Bool) (xs : List X) (x : X) → Contains xs x → p x ≡ true → list_any p xs ≡ true
+  in_any p xs x c t = elim (cases_Bool (list_any p xs)) [
+    | inl some ↦ some
+    | inr none ↦ absurd (from_none p xs none x c t)
+  ]
+
 module _ {X A : Type 0} (f : X → List A) where
   pub in_flat_map : (xs : List X) (x : X) (y : A) → Contains xs x → Contains (f x) y → Contains (flat_map f xs) y
   in_flat_map [] x y c d = absurd (no_member x c)

@@ -138,15 +138,15 @@ module _ (s : Scopes) (name : List ℕ) where
 
   -- ---- by use
 
-  from_means : (own : Option (List ℕ)) → means own name ≡ true → Means own name
+  pub from_means : (own : Option (List ℕ)) → means own name ≡ true → Means own name
   from_means None t = tt
   from_means (Some own) t = (bytes_eq-Decides own name).0 t
 
-  to_means : (own : Option (List ℕ)) → Means own name → means own name ≡ true
+  pub to_means : (own : Option (List ℕ)) → Means own name → means own name ≡ true
   to_means None is = refl
   to_means (Some own) is = (bytes_eq-Decides own name).1 is
 
-  from_given_by : (clause : Clause) (k : ℕ) → Contains (given_by s name clause) k
+  pub from_given_by : (clause : Clause) (k : ℕ) → Contains (given_by s name clause) k
       → IsTrue (region_at s clause.from).closed × Means clause.name name × IsDeclared s clause.from name k
   from_given_by clause k c = elim (cases_Bool ((region_at s clause.from).closed && means clause.name name)) [
     | inl t ↦
@@ -158,7 +158,7 @@ module _ (s : Scopes) (name : List ℕ) where
     | inr f ↦ absurd (no_member k (subst (λ zs. Contains zs k) (ap (λ b. if b then declared_in s name clause.from else []) f) c))
   ]
 
-  in_given_by : (clause : Clause) (k : ℕ) → IsTrue (region_at s clause.from).closed → Means clause.name name
+  pub in_given_by : (clause : Clause) (k : ℕ) → IsTrue (region_at s clause.from).closed → Means clause.name name
       → IsDeclared s clause.from name k → Contains (given_by s name clause) k
   in_given_by clause k closed meant is =
       subst (λ zs. Contains zs k) (sym (ap (λ b. if b then declared_in s name clause.from else [])

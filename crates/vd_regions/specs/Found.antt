@@ -77,6 +77,25 @@ given_by s name clause = if (region_at s clause.from).closed && means clause.nam
 abbrev pub given : Scopes → List ℕ → List ℕ → List ℕ
 given s name regions = flat_map (λ r. flat_map (given_by s name) (region_at s r).uses) regions
 
+-- a clause gives a name of a region, closed or not
+abbrev pub gives_name : List ℕ → ℕ → Clause → Bool
+gives_name name from clause = (clause.from == from) && means clause.name name
+
+abbrev pub is_given_by : List Clause → List ℕ → ℕ → Bool
+is_given_by clauses name from = list_any (gives_name name from) clauses
+
+-- a clause of one of these regions does
+abbrev pub is_given : Scopes → (name regions : List ℕ) → ℕ → Bool
+is_given s name regions from = list_any (λ r. is_given_by (region_at s r).uses name from) regions
+
+-- what clauses of these regions give of what another declares
+abbrev pub given_from : Scopes → (name regions : List ℕ) → ℕ → List ℕ
+given_from s name regions from = if (region_at s from).closed && is_given s name regions from then declared_in s name from else []
+
+-- the same of several other regions
+abbrev pub given_among : Scopes → (name regions froms : List ℕ) → List ℕ
+given_among s name regions froms = flat_map (given_from s name regions) froms
+
 -- of all that clauses give, each is the same declaration or overloadable as it is itself
 abbrev pub is_alone : Scopes → List ℕ → ℕ → Bool
 is_alone s ks k =

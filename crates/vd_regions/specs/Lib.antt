@@ -3,5 +3,7 @@ pub mod Homographs
 pub mod Visible
 pub mod Links
 pub mod Found
+pub mod Clauses
+pub mod Indexes
 pub mod InOrder
 pub mod Laws

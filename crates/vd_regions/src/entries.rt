@@ -1,12 +1,10 @@
 //! What stands in a region.
 
-ghost use Rattle.std.specs.Prelude.{◌≡◌, ◌++◌, ◌∷◌, [], map, OnOk, OnErr};
-ghost use Rattle.vd_regions.specs.Scopes.{Clause};
+ghost use Rattle.std.specs.Prelude.{◌≡◌};
 
-use std::alloc::{AllocError, Global};
-use std::marker::Model;
-use vd_bytes::Text;
+use crate::clauses::UseClauses;
 use vd_declarations::Declaration;
+use vd_region_tables::{Key, Sort, Table};
 
 /// A declaration and the region that it stands in.
 #[derive(Drop)]
@@ -22,58 +20,24 @@ pub(crate) struct Link {
     pub(crate) before: u32,
 }
 
-/// A table's key.
-#[derive(PartialEq, Eq, Hash, Drop)]
-pub(crate) struct Key {
-    pub(crate) region: u32,
-    pub(crate) name: Vec<u8>,
+impl Link {
+    pub(crate) fn new(entered: Entered, before: u32) -> Link
+        ensures { result ≡ record { entered = entered; before = before } }
+    {
+        Link { entered, before }
+    }
 }
 
-/// A use clause: of a name, or of all.
+/// What is noted of a declaration before it is entered: its number, whether each one stands behind its parameters then, its sort, where
+/// it is overloadable, and its table, as it is and with it.
 #[derive(Drop)]
-pub(crate) struct UseClause {
-    pub(crate) from: u32,
-    pub(crate) name: Option<Text>,
-}
-
-/// The use clauses of a region, which contracts see as a list.
-#[derive(Drop)]
-pub(crate) struct UseClauses {
-    clauses: Vec<UseClause>,
-}
-
-impl Model for UseClauses {
-    ghost use Rattle.std.specs.Prelude.{List, map};
-    ghost use Rattle.vd_regions.specs.declared.entries.UseClause.{UseClause};
-    ghost use Rattle.vd_regions.specs.Scopes.{Clause};
-
-    ghost Value = { List Clause };
-
-    ghost view = { λ a. map (λ c. record { from = c.from; name = c.name }) a.clauses.items };
-}
-
-impl UseClauses {
-    pub(crate) fn new(alloc: Global) -> UseClauses
-        ensures { result ≡ [] }
-    {
-        UseClauses {
-            clauses: Vec::new(alloc),
-        }
-    }
-
-    pub(crate) fn push(&mut self, clause: UseClause) -> Result<(), AllocError>
-        ensures pushed { OnOk result (self.new ≡ self.old ++ record { from = clause.from; name = clause.name } ∷ []) }
-        ensures unchanged { OnErr result (self.new ≡ self.old) }
-    {
-        self.clauses.push(clause)?;
-        Ok(())
-    }
-
-    pub(crate) fn as_slice(&self) -> &[UseClause]
-        ensures { map (λ c. record { from = c.from; name = c.name }) result.now ≡ self.now }
-    {
-        self.clauses.as_slice()
-    }
+pub(crate) struct Note {
+    pub(crate) id: u32,
+    pub(crate) settled: bool,
+    pub(crate) sort: Option<Sort>,
+    pub(crate) key: Key,
+    pub(crate) table: Table,
+    pub(crate) grown: Table,
 }
 
 /// A region: the one round it, the one that it continues, whether its end is reached, and its use clauses.

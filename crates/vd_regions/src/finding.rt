@@ -7,38 +7,27 @@ ghost use Rattle.vd_declarations.specs.Classes.{is_overloadable, is_function};
 ghost use Rattle.vd_regions.specs.Scopes.{Scopes, region_at, declaration_at, meant, continued, chain};
 ghost use Rattle.vd_regions.specs.Homographs.{apart, replaces};
 ghost use Rattle.vd_regions.specs.Visible.{IsMeant};
-ghost use Rattle.vd_regions.specs.Found.{entered_in, in_place, declared_of, declared_in, round, apart_from, direct_from, means, given_by, given, is_alone, by_use_among, functions_of, opens, selected_from};
+ghost use Rattle.vd_regions.specs.Clauses.{clause_of, clauses_of};
+ghost use Rattle.vd_regions.specs.Found.{entered_in, in_place, declared_of, declared_in, round, apart_from, direct_from, means, given_by, given, is_given_by, is_given, given_from, given_among, is_alone, by_use_among, functions_of, opens, selected_from};
 
-use crate::entries::{Key, UseClause};
+use crate::clauses::UseClause;
 use crate::regions::Regions;
-use crate::tables::{key_of, takes_place_of};
+use crate::tables::takes_place_of;
 use std::alloc::{AllocError, Global};
 use vd_declarations::{Class, DeclId};
+use vd_region_tables::numbers::{are_all, has, put_in_order};
+use vd_region_tables::{Key, Name, key_of};
 
 impl Regions {
-    /// What was entered in a region under a name, the newest first, behind what is found.
-    pub(crate) fn add_entered(&self, key: &Key, found: &mut Vec<u32>) -> Result<(), AllocError>
-        ensures { OnOk result (found.new.items ≡ found.old.items ++ entered_in self.now key.now.region key.now.name.items) }
-    {
-        let mut left = self.newest(key);
-        while left > 0 {
-            found.push(left - 1)?;
-            left = self.links[left as usize - 1].before;
-        }
-        Ok(())
-    }
-
     /// Whether a declaration takes the place of an operator.
     fn replaces(&self, new: u32, old: u32) -> bool
         ensures { result ≡ replaces self.now new old }
     {
-        match (self.links.get(new as usize), self.links.get(old as usize)) {
+        match (self.catalog.get(new), self.catalog.get(old)) {
             (Some(one), Some(other)) => {
-                takes_place_of(
-                    one.entered.declaration.class,
-                    other.entered.declaration.class,
-                ) && old < new
-                    && self.have_same_profile(&other.entered.declaration, &one.entered.declaration)
+                takes_place_of(one.declaration.class, other.declaration.class)
+                    && old < new
+                    && self.have_same_profile(&other.declaration, &one.declaration)
             }
             _ => false,
         }
@@ -100,7 +89,7 @@ impl Regions {
         ensures { OnOk result (found.new.items ≡ found.old.items ++ declared_in self.now key.now.name.items key.now.region) }
     {
         let mut entered = Vec::new(alloc);
-        self.add_entered(key, &mut entered)?;
+        self.catalog.add_entered(key, &mut entered)?;
         let functions = self.functions_of(alloc, &entered)?;
         self.add_in_place(&functions, &entered, found)?;
         Ok(())
@@ -169,13 +158,8 @@ impl Regions {
     fn is_apart(&self, number: u32, other: u32) -> bool
         ensures { result ≡ apart self.now (declaration_at self.now number) (declaration_at self.now other) }
     {
-        match (
-            self.links.get(number as usize),
-            self.links.get(other as usize),
-        ) {
-            (Some(one), Some(other)) => {
-                self.are_apart(&one.entered.declaration, &other.entered.declaration)
-            }
+        match (self.catalog.get(number), self.catalog.get(other)) {
+            (Some(one), Some(other)) => self.are_apart(&one.declaration, &other.declaration),
             _ => false,
         }
     }
@@ -267,7 +251,7 @@ impl Regions {
         clause: &UseClause,
         found: &mut Vec<u32>,
     ) -> Result<(), AllocError>
-        ensures found { OnOk result (found.new.items ≡ found.old.items ++ given_by self.now key.old.name.items (record { from = clause.now.from; name = clause.now.name })) }
+        ensures found { OnOk result (found.new.items ≡ found.old.items ++ given_by self.now key.old.name.items (clause_of clause.now)) }
         ensures name { key.new.name.items ≡ key.old.name.items }
     {
         if self.is_closed(clause.from) && Regions::means(clause, &key.name) {
@@ -286,7 +270,7 @@ impl Regions {
         found: &mut Vec<u32>,
     ) -> Result<(), AllocError>
         ensures found { OnOk result (found.new.items ≡ found.old.items
-            ++ flat_map (given_by self.now key.old.name.items) (map (λ c. record { from = c.from; name = c.name }) clauses.now)) }
+            ++ flat_map (given_by self.now key.old.name.items) (clauses_of clauses.now)) }
         ensures name { key.new.name.items ≡ key.old.name.items }
     {
         for clause in clauses {
@@ -297,7 +281,7 @@ impl Regions {
 
     /// The use clauses of a region.
     fn uses_of(&self, region: u32) -> &[UseClause]
-        ensures { map (λ c. record { from = c.from; name = c.name }) result.now ≡ (region_at self.now region).uses }
+        ensures { clauses_of result.now ≡ (region_at self.now region).uses }
     {
         match self.spaces.get(region as usize) {
             Some(space) => space.uses.as_slice(),
@@ -306,7 +290,7 @@ impl Regions {
     }
 
     /// What the use clauses of some regions give of the key's name.
-    pub(crate) fn add_given(
+    fn add_given(
         &self,
         alloc: Global,
         key: &mut Key,
@@ -320,6 +304,95 @@ impl Regions {
             self.add_given_by_all(alloc, key, self.uses_of(*region), found)?;
         }
         Ok(())
+    }
+
+    /// How many use clauses stand in some regions.
+    fn count_clauses(&self, regions: &[u32]) -> usize {
+        let mut count: usize = 0;
+        for region in regions {
+            count = count.saturating_add(self.uses_of(*region).len());
+        }
+        count
+    }
+
+    /// Whether a clause of a region gives the name of the key's region.
+    fn region_gives(&self, region: u32, key: &Key) -> bool
+        ensures { result ≡ is_given_by (region_at self.now region).uses key.now.name.items key.now.region }
+    {
+        match self.spaces.get(region as usize) {
+            Some(space) => space.uses.gives(key),
+            None => false,
+        }
+    }
+
+    /// Whether a clause of one of these regions does.
+    fn is_given(&self, regions: &[u32], key: &Key) -> bool
+        ensures { result ≡ is_given self.now key.now.name.items regions.now key.now.region }
+    {
+        for region in regions {
+            if self.region_gives(*region, key) {
+                return true;
+            }
+        }
+        false
+    }
+
+    /// What use clauses of these regions give of what the key's region declares under its name.
+    fn add_given_from(
+        &self,
+        alloc: Global,
+        key: &Key,
+        regions: &[u32],
+        found: &mut Vec<u32>,
+    ) -> Result<(), AllocError>
+        ensures { OnOk result (found.new.items ≡ found.old.items ++ given_from self.now key.now.name.items regions.now key.now.region) }
+    {
+        if self.is_closed(key.region) && self.is_given(regions, key) {
+            self.add_declared(alloc, key, found)?;
+        }
+        Ok(())
+    }
+
+    /// The same of several other regions.
+    fn add_given_among(
+        &self,
+        alloc: Global,
+        key: &mut Key,
+        regions: &[u32],
+        froms: &[u32],
+        found: &mut Vec<u32>,
+    ) -> Result<(), AllocError>
+        ensures found { OnOk result (found.new.items ≡ found.old.items ++ given_among self.now key.old.name.items regions.now froms.now) }
+        ensures name { key.new.name.items ≡ key.old.name.items }
+    {
+        for from in froms {
+            key.region = *from;
+            self.add_given_from(alloc, key, regions, found)?;
+        }
+        Ok(())
+    }
+
+    /// What the use clauses of some regions give of the key's name, in any order. Either each of the clauses is asked, or each region that
+    /// declares the name, whichever are fewer.
+    pub(crate) fn gather_given(
+        &self,
+        alloc: Global,
+        key: &mut Key,
+        regions: &[u32],
+    ) -> Result<Vec<u32>, AllocError>
+        ensures found { IfOk result (λ found. (k : ℕ) → Contains found.items k ↔ Contains (given self.now key.old.name.items regions.now) k) }
+        ensures name { key.new.name.items ≡ key.old.name.items }
+    {
+        let bytes = Vec::from_slice(alloc, &key.name)?;
+        let name = Name { bytes };
+        let homes = self.catalog.homes(&name);
+        let mut found = Vec::new(alloc);
+        if self.count_clauses(regions) <= homes.len() {
+            self.add_given(alloc, key, regions, &mut found)?;
+            return Ok(found);
+        }
+        self.add_given_among(alloc, key, regions, homes, &mut found)?;
+        Ok(found)
     }
 
     /// Whether all of these are overloadable.
@@ -395,8 +468,8 @@ impl Regions {
     fn inside_of(&self, number: u32) -> Option<u32>
         ensures { result ≡ (declaration_at self.now number).inside }
     {
-        match self.links.get(number as usize) {
-            Some(link) => match link.entered.declaration.inside {
+        match self.catalog.get(number) {
+            Some(entered) => match entered.declaration.inside {
                 Some(region) => Some(region.number()),
                 None => None,
             },
@@ -463,40 +536,6 @@ impl Regions {
         let ids = ids_of(alloc, &meanings)?;
         Ok(ids)
     }
-}
-
-/// Whether one of these is a number.
-fn has(some: &[u32], number: u32) -> bool
-    ensures { result ≡ list_any (λ k. k == number) some.now }
-{
-    for one in some {
-        if *one == number {
-            return true;
-        }
-    }
-    false
-}
-
-/// Whether each of these is a number. Of different ones the second isn't, at the latest.
-fn are_all(some: &[u32], number: u32) -> bool
-    ensures { result ≡ list_all (λ k. k == number) some.now }
-{
-    for one in some {
-        if *one != number {
-            return false;
-        }
-    }
-    true
-}
-
-/// The numbers from the least to the greatest, each once.
-pub(crate) fn put_in_order(found: &mut Vec<u32>) -> Result<(), AllocError>
-    ensures ascending { OnOk result (IsStrictlyIncreasing found.new.items) }
-    ensures same { OnOk result ((k : ℕ) → Contains found.new.items k ↔ Contains found.old.items k) }
-{
-    found.sort()?;
-    found.dedup();
-    Ok(())
 }
 
 /// Numbers as declarations.

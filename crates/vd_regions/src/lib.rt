@@ -1,6 +1,8 @@
 //! Declarative regions and what is visible in them. (IEEE 1076, scope and visibility)
 #![tactic(auto)]
 
+mod catalog;
+mod clauses;
 pub mod entries;
 mod finding;
 pub mod laws;

@@ -9,43 +9,33 @@ ghost use Rattle.vd_regions.specs.Homographs.{homograph};
 ghost use Rattle.vd_regions.specs.Visible.{IsVisible, IsSelected, IsMeant};
 ghost use Rattle.vd_regions.specs.InOrder.{visible_in, selected_in_order};
 
-use crate::entries::{Entered, Key, Link, Space, UseClause, UseClauses};
-use crate::finding::put_in_order;
-use crate::tables::key_of;
-use indexmap::IndexMap;
+use crate::catalog::Catalog;
+use crate::clauses::{UseClause, UseClauses};
+use crate::entries::{Entered, Space};
 use std::alloc::{AllocError, Global};
 use std::marker::Model;
 use vd_bytes::Text;
 use vd_declarations::{DeclId, Declaration, RegionId};
+use vd_region_tables::key_of;
+use vd_region_tables::numbers::{narrow, put_in_order};
 
 /// Regions inside one another, the declarations in them, and their use clauses. Numbers of regions and declarations are never
 /// given back.
 #[derive(Drop)]
 pub struct Regions {
     pub(crate) alloc: Global,
-    pub(crate) links: Vec<Link>,
+    pub(crate) catalog: Catalog,
     pub(crate) spaces: Vec<Space>,
-    pub(crate) newest: IndexMap<Key, u32>,
 }
 
 impl Model for Regions {
-    ghost use Rattle.std.specs.Prelude.{◌≡◌, ◌<◌, ℕ, List, map, length, slice_index_or};
-    ghost use Rattle.std.specs.Option.{unwrap_or};
-    ghost use Rattle.indexmap.specs.IndexMap.{get};
-    ghost use Rattle.vd_regions.specs.Scopes.{Scopes, stands_in};
-    ghost use Rattle.vd_regions.specs.declared.entries.Key.{Key};
-    ghost use Rattle.vd_regions.specs.Links.{newest_below, table_of, entered_of, no_link, same_key, region_of};
+    ghost use Rattle.std.specs.Prelude.{map};
+    ghost use Rattle.vd_regions.specs.Scopes.{Scopes};
+    ghost use Rattle.vd_regions.specs.Links.{region_of};
 
     ghost Value = { Scopes };
 
-    ghost view = { λ a. record { entered = entered_of a.links.items; regions = map region_of a.spaces.items } };
-
-    // Each table leads to its newest declaration, and each declaration to the one before it in its table.
-    ghost invariant = { λ a.
-        ((key : Key) → unwrap_or (get same_key a.newest key) 0
-        ≡ newest_below (stands_in key.region key.name.items) (entered_of a.links.items) (length a.links.items))
-        × ((k : ℕ) → k < length a.links.items → (slice_index_or a.links.items k no_link).before
-        ≡ newest_below (table_of (slice_index_or a.links.items k no_link).entered) (entered_of a.links.items) k) };
+    ghost view = { λ a. record { entered = a.catalog; regions = map region_of a.spaces.items } };
 }
 
 /// Why a declaration wasn't entered.
@@ -63,16 +53,6 @@ impl From<AllocError> for EnterEnd {
 
     fn from(_: AllocError) -> Self {
         EnterEnd::Memory
-    }
-}
-
-// A number that fits, unless there is no more room.
-pub(crate) fn narrow(number: usize) -> Result<u32, AllocError>
-    ensures { IfOk result (λ n. n ≡ number) }
-{
-    match u32::try_from(number) {
-        Ok(number) => Ok(number),
-        Err(_) => Err(AllocError),
     }
 }
 
@@ -103,9 +83,8 @@ impl Regions {
         })?;
         Ok(Regions {
             alloc,
-            links: Vec::new(alloc),
+            catalog: Catalog::new(alloc),
             spaces,
-            newest: IndexMap::new(alloc),
         })
     }
 
@@ -127,7 +106,7 @@ impl Regions {
     pub fn is_declaration(&self, id: DeclId) -> bool
         ensures { result ≡ nat_lt id (length self.now.entered) }
     {
-        (id.number() as usize) < self.links.len()
+        (id.number() as usize) < self.catalog.len()
     }
 
     /// A new region inside another.
@@ -212,7 +191,7 @@ impl Regions {
         requires { id < length self.now.entered }
         ensures { result.now ≡ declaration_at self.now id }
     {
-        &self.links[id.number() as usize].entered.declaration
+        &self.catalog.at(id.number()).declaration
     }
 
     /// Puts a declaration into a region, under its name. It is visible there from now on.
@@ -232,26 +211,12 @@ impl Regions {
         if let Some(first) = self.first_clash(region.number(), &declared)? {
             return Err(EnterEnd::Homograph(DeclId::of(first)));
         }
-        let key = key_of(self.alloc, region.number(), name.as_bytes())?;
-        let before = self.newest(&key);
-        let id = narrow(self.links.len())?;
-        if id == u32::MAX {
-            return Err(EnterEnd::Memory);
-        }
         let entered = Entered {
             region: region.number(),
             declaration: declared,
         };
-        if let Err(_) = self.links.push(Link { entered, before }) {
-            return Err(EnterEnd::Memory);
-        }
-        match self.newest.insert(key, id + 1) {
-            Ok(_) => Ok(DeclId::of(id)),
-            Err(_) => {
-                self.links.truncate(id as usize);
-                Err(EnterEnd::Memory)
-            }
-        }
+        let id = self.catalog.push(name.as_bytes(), entered)?;
+        Ok(DeclId::of(id))
     }
 
     /// What is visible in a region under a name, in the order in which it was entered.
@@ -269,8 +234,7 @@ impl Regions {
         let mut key = key_of(alloc, 0, name.as_bytes())?;
         let mut around = Vec::new(alloc);
         self.add_round(alloc, &mut key, &regions, &mut around)?;
-        let mut given = Vec::new(alloc);
-        self.add_given(alloc, &mut key, &regions, &mut given)?;
+        let mut given = self.gather_given(alloc, &mut key, &regions)?;
         put_in_order(&mut given)?;
         let mut found = Vec::new(alloc);
         self.add_direct(alloc, &mut key, &regions, &mut found)?;

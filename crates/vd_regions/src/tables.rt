@@ -1,16 +1,17 @@
-//! The tables of declarations, one for each region and name: walks from the newest declaration down.
+//! Which declarations of a name may stand in one region.
 
-ghost use Rattle.std.specs.Prelude.{◌≡◌, ◌<◌, ◌≤◌, ◌∷◌, ◌++◌, ◌&&◌, ℕ, [], OnOk, OnErr, IfOk, Ok, Err, Some, None, true, false, length, map, not, if◌then◌else◌};
+ghost use Rattle.std.specs.Prelude.{IsTrue, ◌≡◌, ◌<◌, ◌≤◌, ◌∷◌, ◌++◌, ◌&&◌, ℕ, [], OnOk, OnErr, IfOk, Ok, Err, Some, None, true, false, length, map, not, if◌then◌else◌};
 ghost use Rattle.std.specs.Option.{option_or};
 ghost use Rattle.vd_regions.specs.Scopes.{region_at, declaration_at, stands_in};
 ghost use Rattle.vd_regions.specs.Homographs.{same_type, same_types, same_profile, apart, takes_place_of, are_copies, name_one_library, may_stand_beside, homograph, type_of};
 ghost use Rattle.vd_regions.specs.Found.{first_in, earlier};
-ghost use Rattle.vd_regions.specs.Links.{newest_below};
+ghost use Rattle.vd_regions.specs.Links.{first_below};
+ghost use Rattle.vd_regions.specs.Indexes.{has_sort, first_by_sorts, is_settled};
 
-use crate::entries::{Entered, Key, Link};
-use crate::regions::{EnterEnd, Regions, narrow};
-use std::alloc::{AllocError, Global};
-use vd_declarations::{Class, DeclId, Declaration, RegionId, TypeId};
+use crate::regions::Regions;
+use std::alloc::AllocError;
+use vd_declarations::{Class, DeclId, Declaration, TypeId};
+use vd_region_tables::{Key, Sort, key_of};
 
 /// Whether a declaration of the first class takes the place of one of the second.
 pub(crate) fn takes_place_of(class: Class, old: Class) -> bool
@@ -47,28 +48,13 @@ fn is_same_type(one: Option<TypeId>, other: Option<TypeId>) -> bool
     }
 }
 
-/// A key for a region and a name.
-pub(crate) fn key_of(alloc: Global, region: u32, name: &[u8]) -> Result<Key, AllocError>
-    ensures { IfOk result (λ key. (key.region ≡ region) × (key.name.items ≡ name.now)) }
-{
-    let name = Vec::from_slice(alloc, name)?;
-    Ok(Key { region, name })
-}
-
 impl Regions {
-    /// The newest declaration in a table, counted from 1, or 0 where there is none.
-    pub(crate) fn newest(&self, key: &Key) -> u32
-        ensures { result ≡ newest_below (stands_in key.now.region key.now.name.items) self.now.entered (length self.now.entered) }
-    {
-        self.newest.get(key).copied().unwrap_or(0)
-    }
-
     /// The class of a declaration, or that of a label where the number is no declaration's.
     pub(crate) fn class_at(&self, number: u32) -> Class
         ensures { result ≡ (declaration_at self.now number).class }
     {
-        match self.links.get(number as usize) {
-            Some(link) => link.entered.declaration.class,
+        match self.catalog.get(number) {
+            Some(entered) => entered.declaration.class,
             None => Class::Label,
         }
     }
@@ -77,8 +63,8 @@ impl Regions {
     fn type_at(&self, number: u32) -> Option<TypeId>
         ensures { result ≡ type_of self.now number }
     {
-        match self.links.get(number as usize) {
-            Some(link) => link.entered.declaration.mark,
+        match self.catalog.get(number) {
+            Some(entered) => entered.declaration.mark,
             None => None,
         }
     }
@@ -138,35 +124,90 @@ impl Regions {
     ) -> Result<Option<u32>, AllocError>
         ensures { IfOk result (λ first. first ≡ homograph self.now region new.now) }
     {
-        let mut key = key_of(self.alloc, region, new.name.as_slice())?;
-        let here = self.first_in_table(&key, new);
+        let here = self.first_in(region, new)?;
         match self.continues(region) {
             None => Ok(here),
             Some(declaration) => {
-                key.region = declaration;
-                let there = self.first_in_table(&key, new);
+                let there = self.first_in(declaration, new)?;
                 Ok(earlier(here, there))
             }
         }
     }
 
-    /// The first declaration of a table beside which a new one may not stand.
-    fn first_in_table(&self, key: &Key, new: &Declaration) -> Option<u32>
-        requires { key.now.name.items ≡ new.now.name }
-        ensures { result ≡ first_in self.now key.now.region new.now }
+    /// The first declaration of a region beside which a new one may not stand.
+    fn first_in(&self, region: u32, new: &Declaration) -> Result<Option<u32>, AllocError>
+        ensures { IfOk result (λ first. first ≡ first_in self.now region new.now) }
     {
-        let mut found = None;
-        let mut left = self.newest(key);
-        while left > 0 {
-            let link = &self.links[left as usize - 1];
-            found = or_at(
-                !self.may_stand_beside(&link.entered.declaration, new),
-                left - 1,
-                found,
-            );
-            left = link.before;
+        let key = key_of(self.alloc, region, new.name.as_slice())?;
+        if !self.catalog.is_settled() || new.class.library().is_some() {
+            return self.first_one_by_one(&key, new);
         }
-        found
+        let table = self.catalog.table(&key);
+        if !new.class.is_overloadable() {
+            return Ok(table.first);
+        }
+        let mut sort = self.catalog.sort_of(region, new)?;
+        let overloaded = self.first_of_sorts(
+            &mut sort,
+            new.class.is_function(),
+            new.class.is_copy(),
+        );
+        Ok(earlier(table.alone, overloaded))
+    }
+
+    /// The first declaration of a table beside which a new one may not stand. Each of them is asked.
+    fn first_one_by_one(&self, key: &Key, new: &Declaration) -> Result<Option<u32>, AllocError>
+        requires { key.now.name.items ≡ new.now.name }
+        ensures { IfOk result (λ first. first ≡ first_in self.now key.now.region new.now) }
+    {
+        let mut entered = Vec::new(self.alloc);
+        self.catalog.add_entered(key, &mut entered)?;
+        let mut found = None;
+        for number in &entered {
+            if !self.may_stand_in_place(*number, new) {
+                found = Some(*number);
+            }
+        }
+        Ok(found)
+    }
+
+    /// Whether a new declaration may stand in one region with that of a number.
+    fn may_stand_in_place(&self, number: u32, new: &Declaration) -> bool
+        ensures { result ≡ may_stand_beside self.now (declaration_at self.now number) new.now }
+    {
+        match self.catalog.get(number) {
+            Some(entered) => self.may_stand_beside(&entered.declaration, new),
+            None => false,
+        }
+    }
+
+    /// The first overloadable declaration of a sort's profile beside which a new one may not stand. `function` and `copy` say whether the
+    /// new one is a function that somebody wrote, and one that an instance declares.
+    fn first_of_sorts(&self, sort: &mut Sort, function: bool, copy: bool) -> Option<u32>
+        requires { IsTrue (is_settled self.now.entered) }
+        ensures { result ≡ first_by_sorts self.now.entered sort.old function copy }
+    {
+        sort.predefined = false;
+        sort.copy = false;
+        let written = self.catalog.first(sort);
+        sort.predefined = true;
+        let operator = self.first_where(!function, sort);
+        sort.predefined = false;
+        sort.copy = true;
+        let copied = self.first_where(!copy, sort);
+        earlier(written, earlier(operator, copied))
+    }
+
+    /// The first of a sort, where that is asked.
+    fn first_where(&self, asked: bool, sort: &Sort) -> Option<u32>
+        requires { IsTrue (is_settled self.now.entered) }
+        ensures { result ≡ (if asked then first_below (has_sort self.now.entered sort.now) self.now.entered (length self.now.entered) else None) }
+    {
+        if asked {
+            self.catalog.first(sort)
+        } else {
+            None
+        }
     }
 }
 
@@ -179,11 +220,4 @@ fn earlier(one: Option<u32>, other: Option<u32>) -> Option<u32>
         (Some(one), None) => Some(one),
         (None, other) => other,
     }
-}
-
-// The place where the test is true, or else what was found.
-fn or_at(here: bool, at: u32, found: Option<u32>) -> Option<u32>
-    ensures { result ≡ option_or (if here then Some at else None) found }
-{
-    if here { Some(at) } else { found }
 }

@@ -18,24 +18,24 @@ returns-clause-all c = λ k.
     let named : c.in_ok-key.key.name.items ≡ c.args.name.now = c.in_ok-key.ensures.1 ∙ c.as_bytes.ensures.value in
     let regions : c.in_ok-regions.regions.items ≡ chain s region = c.in_ok-regions.ensures ∙ ap (chain s) c.number.ensures in
     let key2 : c.add_round.new.key.name.items ≡ name = c.in_ok-add_round.ensures.name ∙ named in
-    let key3 : c.add_given.new.key.name.items ≡ name = c.in_ok-add_given.ensures.name ∙ key2 in
+    let key3 : c.gather_given.new.key.name.items ≡ name = c.gather_given.ensures.name ∙ key2 in
     let around : c.deref-4.result.now ≡ round s name (chain s region) =
     c.deref-4.ensures.value ∙ c.in_ok-add_round.ensures.found
     ∙ ap (λ xs. xs ++ round s c.in_ok-key.key.name.items c.deref.result.now) c.new-around.ensures.items
     ∙ ap (λ n. round s n c.deref.result.now) named ∙ ap (round s name) (c.deref.ensures.value ∙ regions) in
-    let given_is : c.add_given.new.found.items ≡ given s name (chain s region) =
-    c.in_ok-add_given.ensures.found
-    ∙ ap (λ xs. xs ++ given s c.add_round.new.key.name.items c.deref-2.result.now) c.new-given.ensures.items
-    ∙ ap (λ n. given s n c.deref-2.result.now) key2 ∙ ap (given s name) (c.deref-2.ensures.value ∙ regions) in
+    let asked : given s c.add_round.new.key.name.items c.deref-2.result.now ≡ given s name (chain s region) =
+    ap (λ n. given s n c.deref-2.result.now) key2 ∙ ap (given s name) (c.deref-2.ensures.value ∙ regions) in
     let direct : c.add_direct.new.found.items ≡ direct_from s name [] (chain s region) =
     c.in_ok-add_direct.ensures.found
-    ∙ ap (λ xs. xs ++ direct_from s c.add_given.new.key.name.items [] c.deref-3.result.now) c.new-found.ensures.items
+    ∙ ap (λ xs. xs ++ direct_from s c.gather_given.new.key.name.items [] c.deref-3.result.now) c.new-found.ensures.items
     ∙ ap (λ n. direct_from s n [] c.deref-3.result.now) key3 ∙ ap (direct_from s name []) (c.deref-3.ensures.value ∙ regions) in
     let ks = c.put_in_order.new.found.items in
     let has : (k : ℕ) → Contains c.put_in_order.new.found.items k → IsGiven s region name k =
-    λ k m. from_given s name region k (subst (λ xs. Contains xs k) given_is ((c.in_ok-put_in_order.ensures.same k).0 m)) in
+    λ k m. from_given s name region k (subst (λ xs. Contains xs k) asked
+    ((c.in_ok-given.ensures.found k).0 ((c.in_ok-put_in_order.ensures.same k).0 m))) in
     let all : (k : ℕ) → IsGiven s region name k → Contains c.put_in_order.new.found.items k =
-    λ k is. (c.in_ok-put_in_order.ensures.same k).1 (subst (λ xs. Contains xs k) (sym given_is) (in_given s name region k is)) in
+    λ k is. (c.in_ok-put_in_order.ensures.same k).1 ((c.in_ok-given.ensures.found k).1
+    (subst (λ xs. Contains xs k) (sym asked) (in_given s name region k is))) in
     let found : c.add_by_use.new.found.items ≡ direct_from s name [] (chain s region) ++ by_use_among s (round s name (chain s region)) ks =
     c.in_ok-add_by_use.ensures
     ∙ ap (λ xs. xs ++ by_use_among s c.deref-4.result.now c.deref-5.result.now) direct
