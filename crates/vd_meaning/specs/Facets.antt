@@ -146,6 +146,11 @@ nth n [] = no_meaning
 nth zero (m ∷ ms) = m
 nth (suc n) (m ∷ ms) = nth n ms
 
+abbrev pub last_of : List Meaning → Meaning
+last_of [] = no_meaning
+last_of (m ∷ []) = m
+last_of (m ∷ n ∷ ms) = last_of (n ∷ ms)
+
 -- the parts from a number on
 abbrev pub from : ℕ → List Meaning → List Meaning
 from zero ms = ms

@@ -7,3 +7,6 @@ pub mod Aggregating
 pub mod Bracketing
 pub mod Doing
 pub mod Declaring
+pub mod Facing
+pub mod Nodes
+pub mod Cases
