@@ -1,6 +1,6 @@
 -- Aggregates with other numbers.
-use Rattle.std.proofs.Common.{◌≡◌, ℕ, zero, suc, ℤ, Bool, true, false, not, List, [], ◌∷◌, ◌++◌, Option, Some, None, map, filter, refl, sym, ap, ◌∙◌}
-use Rattle.std.specs.Prelude.{◌==◌, ◌||◌, if◌then◌else◌, pos, negsuc, Ok, Err}
+use Rattle.std.proofs.Common.{◌≡◌, ℕ, suc, ℤ, Bool, true, false, not, List, [], ◌∷◌, ◌++◌, Option, Some, None, map, filter, refl, ◌∙◌}
+use Rattle.std.specs.Prelude.{◌||◌, if◌then◌else◌, pos, Ok}
 use Rattle.std.specs.List.{AllZip, list_any}
 use Rattle.std.specs.Ordering.{int_eq}
 use Rattle.vd_values.specs.declared.scalar.Scalar.{Scalar}
@@ -12,11 +12,10 @@ use Rattle.vd_composites.specs.Subtypes.{Subtype, Scalars, Arrays, Records, Subt
 use Rattle.vd_composites.specs.Concatenations.{array_on}
 use Rattle.vd_composites.specs.Aggregates.{named_bounds, bounds_with_others, array_from, record_from, numbers_from, chosen_indexes}
 use Rattle.vd_environments.specs.Got.{Got, got}
-use Rattle.vd_environments.specs.Environments.{Env, Static, only_global}
-use Rattle.vd_meaning.specs.Operators.{marked}
+use Rattle.vd_environments.specs.Environments.{Env, only_global}
 use Rattle.vd_meaning.specs.Names.{bounds_of_subtype}
-use Rattle.vd_meaning.specs.Facets.{Meaning, Association, Positional, ByChoices, ForOthers, Choice, known_of}
-use Rattle.vd_meaning.specs.Brackets.{for_each, is_positional, is_for_others, has_choices, positional_count, all_ranges, ranges_of, with_positions, indexes_of, array_pairs, array_of_pairs, array_with_others, array_with_choices, each_element, array_with_positions, known_direction, array_aggregate, positions_of, fields_of, named_fields, fields_left, field_at, record_pairs, record_aggregate, aggregate_of, aggregate, bracketed_value, bracketed_known}
+use Rattle.vd_meaning.specs.Facets.{Meaning, Association, Positional, ByChoices, ForOthers, Choice}
+use Rattle.vd_meaning.specs.Brackets.{for_each, is_positional, is_for_others, has_choices, positional_count, all_ranges, ranges_of, with_positions, indexes_of, array_pairs, array_of_pairs, array_with_others, array_with_choices, each_element, known_direction, array_aggregate, positions_of, fields_of, named_fields, fields_left, field_at, record_pairs, record_aggregate, aggregate_of, aggregate, bracketed_value, bracketed_known}
 use Rattle.vd_meaning_laws.specs.Agreement.{Link, IsApart, through, number_in}
 use Rattle.vd_meaning_laws.specs.Renumbering.{AlikeMeaning, choice_in}
 use Rattle.vd_meaning_laws.proofs.Parts.{ranges_same, known_same}

@@ -1,18 +1,16 @@
 -- Lists in brackets behind a name, with other numbers.
-use Rattle.std.proofs.Common.{◌≡◌, ℕ, Bool, true, false, List, [], ◌∷◌, ◌++◌, Option, Some, None, map, refl, sym, ap, ◌∙◌}
-use Rattle.std.specs.Prelude.{◌==◌, if◌then◌else◌, Ok, Err}
+use Rattle.std.proofs.Common.{◌≡◌, ℕ, List, Option, Some, None, ◌∙◌}
+use Rattle.std.specs.Prelude.{if◌then◌else◌, Ok}
 use Rattle.std.specs.List.{AllZip}
-use Rattle.vd_values.specs.declared.scalar.Scalar.{Scalar}
 use Rattle.vd_composites.specs.declared.ranges.Bounds.{Bounds}
 use Rattle.vd_composites.specs.Stops.{◌>>=◌}
-use Rattle.vd_composites.specs.Composites.{Value}
 use Rattle.vd_resolved.specs.declared.node.Resolved.{Resolved}
 use Rattle.vd_environments.specs.Got.{Got}
-use Rattle.vd_environments.specs.Environments.{Signals, Static, never, both, Env, Argument, unknown, or_senseless}
-use Rattle.vd_meaning.specs.Tables.{Table, Role, ConstantRole, VariableRole, SignalRole, LiteralRole, FunctionRole, MarkRole, ElementRole, NoRole, role_of, followed, is_predefined}
-use Rattle.vd_meaning.specs.Operators.{Operation, Apply, Lazily, Join, TruthText, Edge, NoOperation, operation, edge}
+use Rattle.vd_environments.specs.Environments.{never, both, Env, unknown}
+use Rattle.vd_meaning.specs.Tables.{Table, Role, ConstantRole, VariableRole, SignalRole, LiteralRole, FunctionRole, MarkRole, ElementRole, NoRole, role_of, followed}
+use Rattle.vd_meaning.specs.Operators.{Operation, Apply, Lazily, Join, TruthText, Edge, NoOperation, edge}
 use Rattle.vd_meaning.specs.Names.{Named, Callee, NoCallee, Attributed, fresh, call, conversion, stepped, to_element, to_slice, type_attribute_value, number_or, and_read}
-use Rattle.vd_meaning.specs.Facets.{Meaning, nth, value_of, known_of, reads_of}
+use Rattle.vd_meaning.specs.Facets.{Meaning, nth, value_of, known_of}
 use Rattle.vd_meaning.specs.Brackets.{arguments_for, argument_read, called_with, operation_called, element_or_slice, by_role, by_callee, arguments_piece, bracketed_value, bracketed_known, qualification_piece}
 use Rattle.vd_meaning_laws.specs.Agreement.{Link, IsApart, through, number_in}
 use Rattle.vd_meaning_laws.specs.Renumbering.{SameTable, AlikeMeaning, renumbered, name_in, optional}

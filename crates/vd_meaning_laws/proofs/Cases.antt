@@ -1,35 +1,29 @@
 -- The congruence: a node of any kind means the same with other numbers, where its parts do.
-use Rattle.std.proofs.Common.{◌≡◌, ℕ, zero, suc, Bool, true, false, List, [], ◌∷◌, ◌++◌, Option, Some, None, map, refl, sym, ap, ◌∙◌, subst}
-use Rattle.std.specs.Prelude.{◌==◌, if◌then◌else◌, option_to_list, Ok, Err}
+use Rattle.std.proofs.Common.{◌≡◌, ℕ, true, false, List, [], ◌∷◌, Option, Some, None, refl, sym, ◌∙◌, subst}
+use Rattle.std.specs.Prelude.{Ok}
 use Rattle.std.specs.List.{AllZip}
 use Rattle.vd_values.specs.declared.scalar.Scalar.{Scalar}
-use Rattle.vd_values.specs.declared.scalar.Scalar.TheVariants.{Literal}
-use Rattle.vd_kernel.specs.declared.assignments.Delay.TheVariants.{Transport}
-use Rattle.vd_bytes.specs.declared.places.Place.{Place}
 use Rattle.vd_forest.specs.Forest.{Forest, nothing, more}
 use Rattle.vd_rewriting.specs.Forms.{with_forms}
 use Rattle.vd_composites.specs.Stops.{◌>>=◌}
-use Rattle.vd_composites.specs.Composites.{Value, One}
-use Rattle.vd_composites.specs.Subtypes.{Subtype}
+use Rattle.vd_composites.specs.Composites.{Value}
 use Rattle.vd_resolved.specs.declared.node.Resolved.{Resolved}
 use Rattle.vd_environments.specs.Got.{Got}
-use Rattle.vd_environments.specs.Environments.{Signals, Static, both, always, own_bounds, all_bounds, Env, unknown}
-use Rattle.vd_environments.specs.Commands.{Command, Skip, Choose, Each, While, Leave, in_order}
-use Rattle.vd_environments.specs.Processes.{Process}
+use Rattle.vd_environments.specs.Environments.{Signals, both, own_bounds, all_bounds, Env, unknown}
+use Rattle.vd_environments.specs.Commands.{Command, Each}
 use Rattle.vd_meaning.specs.Tables.{Table, Role, ConstantRole, VariableRole, SignalRole, LiteralRole, FunctionRole, MarkRole, ElementRole, NoRole, role_of, followed}
 use Rattle.vd_meaning.specs.Operators.{function_of, marked}
-use Rattle.vd_meaning.specs.Literals.{number, integer, physical, string}
-use Rattle.vd_meaning.specs.Names.{Named, first_piece, literal_known, call_known, number_or, unless_stopped, to_field, attributed, attribute_named, RangeOf, and_read}
-use Rattle.vd_meaning.specs.Facets.{Meaning, no_meaning, nth, from, flattened, reads_of, targets_of, known_of, value_of, arguments, of_node, expression, commanding, Waveform, ByChoices, ForOthers, Comparison, ByEquality, ByMatching}
-use Rattle.vd_meaning.specs.Brackets.{or_else, bracketed_value, bracketed_known, choice_of, arguments_piece, qualification_piece}
-use Rattle.vd_meaning.specs.Statements.{truth_of, setting, driving, giving, report, assertion, time_in, any_covers, alternatives, comparison, selecting, waiting_for, values_of_range}
-use Rattle.vd_meaning.specs.Declarations.{indication, enumeration, array_type, record_type, all_fields, for_names, new_type, new_constants, new_variables, new_objects, parameters_for, function_command}
-use Rattle.vd_meaning.specs.Meanings.{made, selection_piece, piece_of, operator, limits, limits_of_mark, target_read, target_of, process_of, where_present, jump_of, branches, listed_signals, body_of, meaning_of, node_meaning, meanings}
+use Rattle.vd_meaning.specs.Literals.{physical, string}
+use Rattle.vd_meaning.specs.Names.{Named, literal_known, call_known, number_or, unless_stopped, to_field, attributed, attribute_named, RangeOf, and_read}
+use Rattle.vd_meaning.specs.Facets.{Meaning, nth, from, flattened, reads_of, known_of, value_of, arguments, Waveform, Comparison}
+use Rattle.vd_meaning.specs.Statements.{truth_of, setting, driving, time_in, alternatives, comparison, selecting, values_of_range}
+use Rattle.vd_meaning.specs.Declarations.{indication, enumeration, record_type, for_names, new_type, new_constants, new_variables, new_objects, parameters_for}
+use Rattle.vd_meaning.specs.Meanings.{made, selection_piece, operator, target_read, body_of, meaning_of, meanings}
 use Rattle.vd_meaning.specs.Kinds
 use Rattle.vd_meaning_laws.specs.Agreement.{Link, IsApart, through, number_in, AlikeCommands}
-use Rattle.vd_meaning_laws.specs.Renumbering.{SameTable, AlikeMeaning, AlikeProcess, renumbered, name_in, optional, waveform_in, choice_in, TreesAlike}
-use Rattle.vd_meaning_laws.proofs.Agreeing.{skips_alike, sequences_alike, choices_alike, loops_alike, whiles_alike}
-use Rattle.vd_meaning_laws.proofs.Naming.{first_piece_same, number_or_same, function_same, call_known_same, marked_same}
+use Rattle.vd_meaning_laws.specs.Renumbering.{SameTable, AlikeMeaning, renumbered, name_in, waveform_in, TreesAlike}
+use Rattle.vd_meaning_laws.proofs.Agreeing.{skips_alike, choices_alike, loops_alike, whiles_alike}
+use Rattle.vd_meaning_laws.proofs.Naming.{first_piece_same, number_or_same, function_same, call_known_same}
 use Rattle.vd_meaning_laws.proofs.Stepping.{stepped_same, attributed_same}
 use Rattle.vd_meaning_laws.proofs.Parts.{nth_alike, from_alike, none_alike, known_same, reads_same, targets_same, choices_same}
 use Rattle.vd_meaning_laws.proofs.Aggregating.{bracketed_same, bracketed_known_same}
@@ -170,10 +164,159 @@ module _ (l : Link) (numbers : IsApart l) (t t' : Table) (tables : SameTable l t
 
     processes_alike : (n : Resolved) (text : List ℕ) → Same Kinds.OneProcess n text ms ns
     processes_alike n text =
-        Facing.with_processes l (Nodes.node_alike l numbers n text ms ns h) _ _
-        (record {
-          declarations = (part 2).declarations;
-          statements = (part 3).command None;
-          sensitivity = (λ i. (nth 0 ns).listening (λ e. rest_reads 2 e i)) ∙ (part 0).listening (reads_of (from 2 ms));
-          targets = λ i e. targets_same l numbers (from 2 ms) (from 2 ns) (parts_from 2) e i;
-        }, tt)
+        Facing.with_processes l (Nodes.node_alike l numbers n text ms ns h) _ _ (
+          record {
+            declarations = (part 2).declarations;
+            statements = (part 3).command None;
+            sensitivity = (λ i. (nth 0 ns).listening (λ e. rest_reads 2 e i)) ∙ (part 0).listening (reads_of (from 2 ms));
+            targets = λ i e. targets_same l numbers (from 2 ms) (from 2 ns) (parts_from 2) e i;
+          },
+          tt,
+        )
+
+    -- ---- a case for each kind
+
+    pub kind_alike : (k : Kinds.Kind) (n : Resolved) (text : List ℕ) → Same k n text ms ns
+    kind_alike Kinds.NotThere n text = none_alike l numbers
+    kind_alike Kinds.Parts n text = Nodes.node_alike l numbers n text ms ns h
+    kind_alike Kinds.Word n text =
+        Facing.with_numbers l (Facing.with_texts l (Facing.with_name l (Nodes.node_alike l numbers n text ms ns h) _ _ (first_piece_same l numbers t t' tables n)) _ _ refl) _ _ (Nodes.list_same l numbers n.declaration)
+    kind_alike Kinds.CharacterLiteral n text =
+        Facing.with_texts l (Nodes.expression_alike l numbers n text ms ns h _ _ _ _ refl (λ i e. literal_known_same n.mark e i)) _ _ refl
+    kind_alike Kinds.StringLiteral n text =
+        Facing.with_name l (Nodes.expression_alike l numbers n text ms ns h _ _ _ _ (λ i known e. string_same n.mark text e i) (λ i e. string_known_same n.mark e i)) _ _ (first_piece_same l numbers t t' tables n)
+    kind_alike Kinds.NumberLiteral n text = Nodes.expression_alike l numbers n text ms ns h _ _ _ _ refl refl
+    kind_alike Kinds.TimeLiteral n text =
+        Nodes.expression_alike l numbers n text ms ns h _ _ _ _ (λ i known e. physical ((part 0).text i) ((part 1).text i)) refl
+    kind_alike Kinds.WholeName n text = Nodes.name_alike l numbers n text ms ns h
+    kind_alike Kinds.SelectionPiece n text = Nodes.piece_alike l numbers n text ms ns h _ _ (λ p. selected_same n p)
+    kind_alike Kinds.ArgumentsPiece n text = Nodes.piece_alike l numbers n text ms ns h _ _ (λ p. arguments_piece_same l numbers t t' tables ms ns h n p)
+    kind_alike Kinds.AttributePiece n text =
+        Nodes.piece_alike l numbers n text ms ns h _ _ (λ p. (λ i. attributed (attribute_named ((part 0).text i)) (number_in l n.mark) (name_in l p)) ∙ attributed_same l (attribute_named (nth 0 ms).text) n.mark p)
+    kind_alike Kinds.RangePiece n text = Nodes.piece_alike l numbers n text ms ns h _ _ (λ p. attributed_same l (RangeOf false) n.mark p)
+    kind_alike Kinds.QualificationPiece n text = Nodes.piece_alike l numbers n text ms ns h _ _ (λ p. qualification_same l numbers t t' tables ms ns h n p)
+    kind_alike Kinds.Operator n text =
+        subst (λ d. AlikeMeaning l (operator t (followed t (number_or n.declaration)) n text ms) (operator t' d (renumbered l n) text ns)) (sym (named_same n)) (operator_alike (followed t (number_or n.declaration)) n text)
+    kind_alike Kinds.Brackets n text =
+        Nodes.expression_alike l numbers n text ms ns h _ _ _ _ (λ i known e. bracketed_same l numbers n.mark ms ns h known e i) (λ i e. bracketed_known_same l numbers ms ns h e i)
+    kind_alike Kinds.Associated n text =
+        Facing.with_reads l (Facing.with_known l (Facing.with_choices l (Facing.with_association l (part 1) _ _ refl) _ _ (part 0).choices) _ _ (λ i e. known_same l numbers ms ns h e i)) _ _ (λ i e. reads_same l numbers ms ns h e i)
+    kind_alike Kinds.AssociatedOthers n text = Facing.with_association l (part 0) _ _ refl
+    kind_alike Kinds.ChoiceList n text =
+        Facing.with_covers l (Facing.with_known l (Facing.with_choices l (Nodes.node_alike l numbers n text ms ns h) _ _ (choices_same l numbers ms ns h)) _ _ (λ i e. known_same l numbers ms ns h e i)) _ _ (λ i c v e. any_covers_same l numbers ms ns h c v e i)
+    kind_alike Kinds.AnyChoice n text = Facing.with_covers l (Nodes.node_alike l numbers n text ms ns h) _ _ refl
+    kind_alike Kinds.OpenActual n text = Facing.with_is_open l (Nodes.node_alike l numbers n text ms ns h) _ _ refl
+    kind_alike (Kinds.Limits down) n text = Nodes.ranging_alike l numbers n text ms ns h _ _ (Nodes.limits_same l numbers down _ _ _ _ (part 0) (part 1))
+    kind_alike Kinds.LimitsOfMark n text =
+        Facing.with_known l (Nodes.ranging_alike l numbers n text (from 1 ms) (from 1 ns) (parts_from 1) _ _ (Nodes.in_mark_same l numbers _ _ _ _ (part 0) (part 1)))
+        _ _ (λ i e. both (own_bounds (((part 0).name i).make e)) ((part 1).known i e))
+    kind_alike Kinds.OpenIndex n text = Facing.with_is_open l (part 0) _ _ refl
+    kind_alike Kinds.MarkName n text = Facing.with_declaration l (Nodes.node_alike l numbers n text ms ns h) _ _ (Nodes.mark_named_same l numbers n ms ns h)
+    kind_alike Kinds.Indication n text =
+        Facing.with_indicated l (Nodes.node_alike l numbers n text ms ns h) _ _
+        ((λ i. indication ((part 0).declaration i) (nth 1 ns)) ∙ (λ i e. indication_same l numbers (nth 0 ms).declaration _ _ (part 1) e i))
+    kind_alike Kinds.Constraint n text = Facing.with_known l (Facing.with_range l (Nodes.node_alike l numbers n text ms ns h) _ _ (part 0).range) _ _ (part 0).known
+    kind_alike Kinds.Literals n text = Facing.with_indicated l (Nodes.node_alike l numbers n text ms ns h) _ _ (λ i e. Ok (enumeration (Nodes.texts_same l numbers ms ns h i)))
+    kind_alike Kinds.ArrayDefinition n text = Facing.with_indicated l (Nodes.node_alike l numbers n text ms ns h) _ _ (λ i e. array_same l numbers _ _ _ _ (part 0) (part 1) e i)
+    kind_alike Kinds.RecordDefinition n text =
+        Facing.with_indicated l (Nodes.node_alike l numbers n text ms ns h) _ _ (λ i e. (part 0).fields i e >>= λ is. Ok (record_type is))
+    kind_alike Kinds.RecordParts n text = Facing.with_fields l (Nodes.node_alike l numbers n text ms ns h) _ _ (λ i e. all_fields_same l numbers ms ns h e i)
+    kind_alike Kinds.RecordPart n text =
+        Facing.with_fields l (Nodes.node_alike l numbers n text ms ns h) _ _
+        ((λ i e. (part 1).indicated i e >>= λ x. Ok (for_names ((part 0).numbers i) x)) ∙ (λ i e. (nth 1 ms).indicated (through l e) >>= λ x. Ok (for_names_same l numbers (nth 0 ms).numbers x i)))
+    kind_alike Kinds.Identifiers n text =
+        Facing.with_numbers l (Facing.with_texts l (Nodes.node_alike l numbers n text ms ns h) _ _ (Nodes.texts_same l numbers ms ns h)) _ _ (Nodes.numbers_same l numbers ms ns h)
+    kind_alike Kinds.NewType n text = new_types n text
+    kind_alike Kinds.NewSubtype n text = new_types n text
+    kind_alike Kinds.NewConstants n text =
+        Nodes.commanding_alike l numbers n ms ns h _ _
+        (subst (λ x. AlikeCommands l (new_constants (nth 0 ms).numbers (nth 1 ms) (nth 2 ms)) (new_constants x (nth 1 ns) (nth 2 ns))) (sym (part 0).numbers) (constants_alike l numbers (nth 0 ms).numbers _ _ _ _ (part 1) (part 2)))
+    kind_alike Kinds.NewVariables n text =
+        Nodes.commanding_alike l numbers n ms ns h _ _
+        (subst (λ x. AlikeCommands l (new_variables (nth 0 ms).numbers (nth 1 ms) (nth 2 ms)) (new_variables x (nth 1 ns) (nth 2 ns))) (sym (part 0).numbers) (variables_alike l numbers (nth 0 ms).numbers _ _ _ _ (part 1) (part 2)))
+    kind_alike Kinds.NewSignals n text =
+        Facing.with_objects l (Nodes.node_alike l numbers n text ms ns h) _ _
+        (λ i. ((λ j. new_objects ((part 0).numbers j) (nth 1 ns) (nth 2 ns)) ∙ new_objects_same l numbers (nth 0 ms).numbers _ _ _ _ (part 1) (part 2)) i ∷ [])
+    kind_alike Kinds.NewPorts n text =
+        Facing.with_objects l (Nodes.node_alike l numbers n text ms ns h) _ _
+        (λ i. ((λ j. new_objects ((part 1).numbers j) (nth 3 ns) (nth 4 ns)) ∙ new_objects_same l numbers (nth 1 ms).numbers _ _ _ _ (part 3) (part 4)) i ∷ [])
+    kind_alike Kinds.Interfaces n text =
+        Facing.with_parameters l (Facing.with_objects l (Nodes.node_alike l numbers n text ms ns h) _ _ (Nodes.objects_same l numbers ms ns h)) _ _ (Nodes.parameters_same l numbers ms ns h)
+    kind_alike Kinds.Parameters n text =
+        Facing.with_parameters l (Nodes.node_alike l numbers n text ms ns h) _ _
+        ((λ i. parameters_for ((part 1).numbers i) (nth 3 ns)) ∙ new_parameters_same l numbers (nth 1 ms).numbers _ _ (part 3))
+    kind_alike Kinds.NewFunction n text =
+        Facing.with_bodies l (Facing.with_command l (Nodes.node_alike l numbers n text ms ns h) _ _ (λ label. functions_alike l numbers _ _ (part 2).is_present _ _ (Nodes.body_alike l numbers n ms ns h)))
+        (body_of n ms ∷ []) (body_of (renumbered l n) ns ∷ []) (Nodes.body_alike l numbers n ms ns h, tt)
+    kind_alike Kinds.Declarations n text =
+        Facing.with_bodies l (Facing.with_objects l (Facing.with_declarations l (Nodes.node_alike l numbers n text ms ns h) _ _ (Nodes.commands_alike l numbers ms ns h)) _ _ (Nodes.objects_same l numbers ms ns h))
+        (flattened (λ m. m.bodies) ms) (flattened (λ m. m.bodies) ns) (Nodes.flattened_zip l numbers _ (λ m. m.bodies) (λ m n a. a.bodies) ms ns h)
+    kind_alike Kinds.Transported n text = Facing.with_mode l (Nodes.node_alike l numbers n text ms ns h) _ _ refl
+    kind_alike Kinds.Delayed n text =
+        Facing.with_chosen l (Nodes.node_alike l numbers n text ms ns h) _ _ (λ act act' same.
+        subst (λ w. AlikeCommands l (act (record { value = (nth 0 ms).value; delay = λ e. value_of (nth 1 ms) e >>= time_in })) (act' w))
+        (λ i. record { value = sym (part 0).value i; delay = λ e. sym (part 1).value i unknown e >>= time_in }) (same _))
+    kind_alike Kinds.NoWaveform n text = Nodes.node_alike l numbers n text ms ns h
+    kind_alike Kinds.Conditional n text =
+        Facing.with_chosen l (Nodes.node_alike l numbers n text ms ns h) _ _ (λ act act' same.
+        choices_alike l numbers _ _ _ _ _ _ (truths_alike l numbers _ _ (part 1)) (chosen_alike 0 act act' same) (chosen_alike 2 act act' same))
+    kind_alike Kinds.Guarded n text =
+        Facing.with_chosen l (Nodes.node_alike l numbers n text ms ns h) _ _ (λ act act' same.
+        choices_alike l numbers _ _ _ _ _ _ (truths_alike l numbers _ _ (part 1)) (chosen_alike 0 act act' same) (skips_alike l numbers))
+    kind_alike Kinds.Sequence n text = Nodes.commanding_alike l numbers n ms ns h _ _ (Nodes.in_order_alike l numbers _ _ (Nodes.commands_alike l numbers ms ns h))
+    kind_alike Kinds.Labelled n text = Nodes.commanding_alike l numbers n ms ns h _ _ (labelled n)
+    kind_alike Kinds.AssignSignal n text = assigned n text
+    kind_alike Kinds.AssignVariable n text =
+        Facing.with_reads l (Nodes.commanding_alike l numbers n ms ns h _ _ (chosen_alike 1 _ _ (sets 0))) _ _
+        (λ i e. and_read (target_reads 0 e i) (one_reads 1 e i))
+    kind_alike Kinds.SelectSignal n text = selected_signals n text
+    kind_alike Kinds.SelectVariable n text = selected_variables n text
+    kind_alike Kinds.If n text =
+        Nodes.commanding_alike l numbers n ms ns h _ _
+        (choices_alike l numbers _ _ _ _ _ _ (truths_alike l numbers _ _ (part 0)) ((part 1).command None) ((part 2).otherwise _ _ ((part 3).command None)))
+    kind_alike Kinds.Branches n text = Facing.with_otherwise l (Nodes.node_alike l numbers n text ms ns h) _ _ (λ c d k. Nodes.branches_alike l numbers ms ns h c d k)
+    kind_alike Kinds.Branch n text =
+        Facing.with_otherwise l (Nodes.node_alike l numbers n text ms ns h) _ _ (λ c d k. choices_alike l numbers _ _ _ _ _ _ (truths_alike l numbers _ _ (part 0)) ((part 1).command None) k)
+    kind_alike Kinds.Case n text = Nodes.commanding_alike l numbers n ms ns h _ _ (compared 0 1 (nth 2 ms).cases (nth 2 ns).cases (part 2).cases)
+    kind_alike Kinds.Alternatives n text =
+        Facing.with_cases l (Nodes.node_alike l numbers n text ms ns h) _ _ (λ c s. alternatives_alike l numbers _ _ (λ m m' a. a.command None) ms ns h c s)
+    kind_alike Kinds.Alternative n text =
+        Facing.with_command l (Facing.with_covers l (Nodes.node_alike l numbers n text ms ns h) _ _ (part 0).covers) _ _ (λ label. (part 1).command None)
+    kind_alike Kinds.SelectedAlternative n text =
+        Facing.with_chosen l (Facing.with_covers l (Nodes.node_alike l numbers n text ms ns h) _ _ (part 1).covers) _ _ (part 0).chosen
+    kind_alike Kinds.For n text =
+        Facing.with_command l (Nodes.node_alike l numbers n text ms ns h) _ _ (λ label. for_alike label _ _ (Nodes.made_number l numbers n _ _ (part 0)))
+    kind_alike Kinds.WhileTrue n text =
+        Facing.with_command l (Nodes.node_alike l numbers n text ms ns h) _ _ (λ label. whiles_alike l numbers label _ _ _ _ (truths_alike l numbers _ _ (part 0)) ((part 1).command None))
+    kind_alike Kinds.Endless n text =
+        Facing.with_command l (Nodes.node_alike l numbers n text ms ns h) _ _ (λ label. whiles_alike l numbers label (λ _. Ok true) (λ _. Ok true) _ _ (λ e. refl) ((part 0).command None))
+    kind_alike Kinds.Suspend n text = Nodes.commanding_alike l numbers n ms ns h _ _ (waiting_alike l numbers _ _ _ _ _ _ (part 0) (part 1) (part 2))
+    kind_alike Kinds.Listed n text =
+        Facing.with_listening l (Facing.with_reads l (Nodes.node_alike l numbers n text ms ns h) _ _ (λ i e. Nodes.listed_same l numbers ms ns h e i)) _ _ (λ r i. Some (λ e. Nodes.listed_same l numbers ms ns h e i))
+    kind_alike Kinds.Asserting n text =
+        Facing.with_processes l (Nodes.commanding_alike l numbers n ms ns h _ _ (assertion_alike l numbers _ _ _ _ _ _ (part 0) (part 1) (part 2))) _ _ (
+          record {
+            declarations = tt;
+            statements = assertion_alike l numbers _ _ _ _ _ _ (part 0) (part 1) (part 2);
+            sensitivity = λ i. Some (λ e. reads_same l numbers ms ns h e i);
+            targets = refl;
+          },
+          tt,
+        )
+    kind_alike Kinds.Reporting n text = Nodes.commanding_alike l numbers n ms ns h _ _ (report_alike l numbers _ _ _ _ (part 0) (part 1))
+    kind_alike Kinds.Giving n text = Nodes.commanding_alike l numbers n ms ns h _ _ (chosen_alike 0 _ _ (giving_alike l numbers))
+    kind_alike (Kinds.Jumping out) n text =
+        Nodes.commanding_alike l numbers n ms ns h _ _
+        (Nodes.present_alike l numbers (nth 1 ms).is_present (nth 1 ns).is_present (truth_of (nth 1 ms)) (truth_of (nth 1 ns)) _ _ (part 1).is_present (truths_alike l numbers _ _ (part 1)) (Nodes.leaving_alike l numbers out _ _ (part 0)))
+    kind_alike Kinds.Everything n text = Facing.with_listening l (Nodes.node_alike l numbers n text ms ns h) _ _ (λ r. refl)
+    kind_alike Kinds.AssignConcurrently n text = assigned n text
+    kind_alike Kinds.OneProcess n text = processes_alike n text
+    kind_alike Kinds.Concurrent n text =
+        Facing.with_processes l (Nodes.node_alike l numbers n text ms ns h) (flattened (λ m. m.processes) ms) (flattened (λ m. m.processes) ns) (Nodes.flattened_zip l numbers _ (λ m. m.processes) (λ m n a. a.processes) ms ns h)
+
+  pub trees_alike : (f : Forest Resolved) → AllZip (AlikeMeaning l) (meanings t f) (meanings t' (with_forms (renumbered l) f))
+  trees_alike nothing = tt
+  trees_alike (more n text place parts next) = (kind_alike (meanings t parts) (meanings t' (with_forms (renumbered l) parts)) (trees_alike parts) (Kinds.kind n.form) n text, trees_alike next)
+
+pub all_trees_alike : TreesAlike
+all_trees_alike l numbers t t' tables f = trees_alike l numbers t t' tables f

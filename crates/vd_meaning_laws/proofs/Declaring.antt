@@ -1,18 +1,18 @@
 -- What declarations declare with other numbers.
-use Rattle.std.proofs.Common.{◌≡◌, ℕ, zero, suc, Bool, true, false, List, [], ◌∷◌, ◌++◌, Option, Some, None, map, refl, sym, ap, ◌∙◌, subst}
-use Rattle.std.specs.Prelude.{◌==◌, if◌then◌else◌, Ok, Err}
+use Rattle.std.proofs.Common.{◌≡◌, ℕ, Bool, true, false, List, [], ◌∷◌, ◌++◌, Option, Some, None, map, refl, sym, ap, ◌∙◌, subst}
+use Rattle.std.specs.Prelude.{if◌then◌else◌, Ok, Err}
 use Rattle.std.specs.List.{AllZip}
 use Rattle.vd_values.specs.declared.scalar.Scalar.{Scalar}
 use Rattle.vd_composites.specs.declared.ranges.Bounds.{Bounds}
 use Rattle.vd_composites.specs.Stops.{◌>>=◌}
 use Rattle.vd_composites.specs.Composites.{Value}
 use Rattle.vd_composites.specs.Subtypes.{Subtype, fit, default_of, constrained}
-use Rattle.vd_environments.specs.Got.{Halt, Got, got, senseless}
-use Rattle.vd_environments.specs.Environments.{Static, never, always, own_bounds, made_narrower, Make, Argument, Function, Env, with_object, with_subtype, with_function, inside, Indicated, or_senseless, nothing_denoted}
-use Rattle.vd_environments.specs.Commands.{Command, End, Ends, Suspends, Leaves, Stops, Exit, Next, Return, acting, run}
+use Rattle.vd_environments.specs.Got.{Got, got, senseless}
+use Rattle.vd_environments.specs.Environments.{Static, never, own_bounds, made_narrower, Argument, Function, Env, with_object, with_function, inside, Indicated, or_senseless}
+use Rattle.vd_environments.specs.Commands.{Command, End, Ends, Suspends, Leaves, Stops, Exit, Next, Return, run}
 use Rattle.vd_environments.specs.Functions.{Parameter, with_arguments, returned, called}
 use Rattle.vd_meaning.specs.Names.{scalar_type, scalars_of}
-use Rattle.vd_meaning.specs.Facets.{Meaning, Objects, Body}
+use Rattle.vd_meaning.specs.Facets.{Meaning, Body}
 use Rattle.vd_meaning.specs.Declarations.{indicated_mark, narrower, indication, unconstrained_array, constrained_array, array_type, all_fields, new_type, with_objects, initial_value, constant_known, new_constants, new_variables, new_objects, parameters_for, new_function, function_command, for_names}
 use Rattle.vd_meaning_laws.specs.Agreement.{Link, IsApart, through, Keeps, Agree, number_in, AgreeAfter, AlikeEnds, AlikeCommands}
 use Rattle.vd_meaning_laws.specs.Renumbering.{AlikeMeaning, AlikeBody, optional, parameter_in, objects_in, default_in}

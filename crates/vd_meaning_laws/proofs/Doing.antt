@@ -1,5 +1,5 @@
 -- What statements do with other numbers.
-use Rattle.std.proofs.Common.{◌≡◌, ℕ, zero, suc, Bool, true, false, List, [], ◌∷◌, ◌++◌, Option, Some, None, map, refl, sym, ap, ◌∙◌, subst}
+use Rattle.std.proofs.Common.{◌≡◌, ℕ, Bool, true, false, List, [], ◌∷◌, Option, Some, None, refl, sym, ap, ◌∙◌, subst}
 use Rattle.std.specs.Prelude.{◌==◌, if◌then◌else◌, Ok, Err, codes}
 use Rattle.std.specs.List.{AllZip}
 use Rattle.vd_values.specs.declared.scalar.Scalar.{Scalar}
@@ -13,19 +13,18 @@ use Rattle.vd_composites.specs.Composites.{Value}
 use Rattle.vd_composites.specs.Parts.{changed}
 use Rattle.vd_composites.specs.Subtypes.{Subtype, fit}
 use Rattle.vd_environments.specs.Got.{Halt, Got, got}
-use Rattle.vd_environments.specs.Environments.{Signals, Env, Place, with_value, unknown, or_senseless}
-use Rattle.vd_environments.specs.Commands.{Effect, Pause, Jump, Return, Command, Skip, Act, Choose, Wait, Leave, acting, in_order}
+use Rattle.vd_environments.specs.Environments.{Signals, Env, Place, unknown, or_senseless}
+use Rattle.vd_environments.specs.Commands.{Pause, Jump, Return, Command, Skip, acting}
 use Rattle.vd_environments.specs.Processes.{numbers_of}
 use Rattle.vd_meaning.specs.Tables.{Table, sort_of}
 use Rattle.vd_meaning.specs.Operators.{truth_in, literal_of}
 use Rattle.vd_meaning.specs.Names.{Named, scalar_type}
-use Rattle.vd_meaning.specs.Facets.{Meaning, value_of, Waveform, Comparison, ByEquality, ByMatching}
-use Rattle.vd_meaning.specs.Statements.{truth_of, put, setting, effect_of, sending, driving, giving, text_in, reported, report_of, reporting, text_or, severity_or, report, assertion, is_chosen, is_in_range, any_chosen, range_values, covers_by, covered, any_covers, alternatives, holds_dash, dash_refused, comparison, comparison_by, selecting, timeout_of, condition_of, waited_for, waiting_for, values_of_range, time_in, due}
+use Rattle.vd_meaning.specs.Facets.{Meaning, Waveform, Comparison, ByEquality, ByMatching}
+use Rattle.vd_meaning.specs.Statements.{truth_of, put, setting, effect_of, sending, driving, giving, text_in, report_of, reporting, text_or, severity_or, report, assertion, is_chosen, is_in_range, any_chosen, range_values, covers_by, covered, any_covers, alternatives, holds_dash, comparison, comparison_by, selecting, timeout_of, condition_of, waited_for, waiting_for, values_of_range, time_in, due}
 use Rattle.vd_meaning_laws.specs.Agreement.{Link, IsApart, through, Keeps, Agree, Alike, number_in, jump_in, AgreeAfter, AlikeEffect, AlikePauses, AlikeCommands}
 use Rattle.vd_meaning_laws.specs.Renumbering.{SameTable, AlikeMeaning, name_in, waveform_in, place_in, optional}
-use Rattle.vd_meaning_laws.proofs.Agreeing.{at, value_agrees, skips_alike, acts_alike, sequences_alike, choices_alike, waits_alike, jumps_alike}
+use Rattle.vd_meaning_laws.proofs.Agreeing.{value_agrees, skips_alike, acts_alike, sequences_alike, choices_alike, waits_alike, jumps_alike}
 use Rattle.vd_meaning_laws.proofs.Stepping.{type_same}
-use Rattle.vd_meaning_laws.proofs.Parts.{value_same}
 
 module _ (l : Link) (numbers : IsApart l) where
   -- ---- conditions

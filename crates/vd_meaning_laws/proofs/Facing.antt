@@ -97,4 +97,3 @@ module _ (l : Link) where
 
   pub with_processes : {m n : Meaning} → AlikeMeaning l m n → (x y : List Process) → (AllZip (AlikeProcess l) x y) → AlikeMeaning l (record m { processes = x }) (record n { processes = y })
   with_processes h x y z = record { text = h.text; declaration = h.declaration; mark = h.mark; position = h.position; is_present = h.is_present; value = h.value; known = h.known; reads = h.reads; range = h.range; name = h.name; piece = h.piece; association = h.association; choices = h.choices; is_open = h.is_open; mode = h.mode; covers = h.covers; chosen = h.chosen; indicated = h.indicated; fields = h.fields; texts = h.texts; numbers = h.numbers; objects = h.objects; parameters = h.parameters; command = h.command; otherwise = h.otherwise; cases = h.cases; declarations = h.declarations; bodies = h.bodies; targets = h.targets; listening = h.listening; processes = z }
-

@@ -10,3 +10,4 @@ pub mod Declaring
 pub mod Facing
 pub mod Nodes
 pub mod Cases
+pub mod Elaborating

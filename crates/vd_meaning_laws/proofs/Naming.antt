@@ -1,9 +1,7 @@
 -- Names with other numbers.
-use Rattle.std.proofs.Common.{◌≡◌, ℕ, Bool, true, false, List, [], ◌∷◌, ◌++◌, Option, Some, None, map, refl, sym, ap, ◌∙◌}
-use Rattle.std.specs.Prelude.{◌==◌, if◌then◌else◌, Ok, Err, Result}
-use Rattle.vd_values.specs.declared.scalar.Scalar.{Scalar}
+use Rattle.std.proofs.Common.{◌≡◌, ℕ, List, [], Option, Some, None, refl, sym, ◌∙◌}
+use Rattle.std.specs.Prelude.{if◌then◌else◌, Ok}
 use Rattle.vd_composites.specs.Stops.{◌>>=◌}
-use Rattle.vd_composites.specs.Composites.{Value}
 use Rattle.vd_resolved.specs.declared.node.Resolved.{Resolved}
 use Rattle.vd_environments.specs.Got.{Got}
 use Rattle.vd_environments.specs.Environments.{Signals, Static, only_global, both, Argument, Env}
@@ -11,7 +9,7 @@ use Rattle.vd_meaning.specs.Tables.{Table, Role, ConstantRole, VariableRole, Sig
 use Rattle.vd_meaning.specs.Operators.{Operation, Apply, Lazily, Join, TruthText, Edge, NoOperation, arguments_of, joining, marked, operate, function_of}
 use Rattle.vd_meaning.specs.Names.{Named, fresh, call, call_known, called_here, standing, number_or, first_piece}
 use Rattle.vd_meaning_laws.specs.Agreement.{Link, IsApart, through, number_in}
-use Rattle.vd_meaning_laws.specs.Renumbering.{SameTable, renumbered, name_in, optional}
+use Rattle.vd_meaning_laws.specs.Renumbering.{SameTable, renumbered, name_in}
 
 module _ (l : Link) (numbers : IsApart l) (t t' : Table) (tables : SameTable l t t') where
   pub marked_same : (m : Option ℕ) (e : Env) → marked (number_in l m) e ≡ marked m (through l e)

@@ -1,35 +1,27 @@
 -- A node means the same with other numbers, where its parts do: a case for each kind.
-use Rattle.std.proofs.Common.{◌≡◌, ℕ, zero, suc, Bool, true, false, List, [], ◌∷◌, ◌++◌, Option, Some, None, map, refl, sym, ap, ◌∙◌, subst}
-use Rattle.std.specs.Prelude.{◌==◌, if◌then◌else◌, option_to_list, Ok, Err}
+use Rattle.std.proofs.Common.{◌≡◌, ℕ, Bool, true, false, List, [], ◌∷◌, ◌++◌, Option, Some, None, map, refl, sym, ◌∙◌, subst}
+use Rattle.std.specs.Prelude.{if◌then◌else◌, option_to_list, Ok}
 use Rattle.std.specs.List.{AllZip}
 use Rattle.vd_values.specs.declared.scalar.Scalar.{Scalar}
-use Rattle.vd_values.specs.declared.scalar.Scalar.TheVariants.{Literal}
-use Rattle.vd_kernel.specs.declared.assignments.Delay.{Delay}
 use Rattle.vd_composites.specs.declared.ranges.Bounds.{Bounds}
 use Rattle.vd_composites.specs.Stops.{◌>>=◌}
-use Rattle.vd_composites.specs.Composites.{Value, One}
+use Rattle.vd_composites.specs.Composites.{Value}
 use Rattle.vd_composites.specs.Subtypes.{Subtype, constrained}
 use Rattle.vd_resolved.specs.declared.node.Resolved.{Resolved}
-use Rattle.vd_environments.specs.Got.{Got, got, all_got}
-use Rattle.vd_environments.specs.Environments.{Signals, Static, both, own_bounds, all_bounds, Argument, Env, Indicated, unknown, or_senseless}
-use Rattle.vd_environments.specs.Commands.{Command, Skip, Choose, Leave, Jump, in_order}
-use Rattle.vd_environments.specs.Functions.{Parameter}
-use Rattle.vd_environments.specs.Processes.{Process}
-use Rattle.vd_meaning.specs.Tables.{Table, Role, ConstantRole, VariableRole, SignalRole, LiteralRole, FunctionRole, MarkRole, ElementRole, NoRole, role_of, followed}
-use Rattle.vd_meaning.specs.Operators.{function_of, marked}
-use Rattle.vd_meaning.specs.Literals.{string}
-use Rattle.vd_meaning.specs.Names.{Named, first_piece, literal_known, call_known, number_or, name_read, position_in, unless_stopped, to_field, and_read}
-use Rattle.vd_meaning.specs.Facets.{Meaning, nth, last_of, from, flattened, reads_of, targets_of, known_of, value_of, arguments, of_node, at_once, expression, commanding, Waveform, Objects, Body}
-use Rattle.vd_meaning.specs.Brackets.{or_else, bracketed_value, bracketed_known, choice_of}
-use Rattle.vd_meaning.specs.Statements.{truth_of, driving, setting, time_in}
-use Rattle.vd_meaning.specs.Meanings.{made, named_by, whole_name, selection_piece, piece_of, operator, limits, limits_of_mark, ranging, target_read, target_of, process_of, assigning, where_present, jump_of, branches, listed_signals, mark_subtype, body_of}
-use Rattle.vd_meaning_laws.specs.Agreement.{Link, IsApart, through, Agree, Alike, number_in, jump_in, AlikeCommands}
-use Rattle.vd_meaning_laws.specs.Renumbering.{SameTable, AlikeMeaning, AlikeBody, AlikeProcess, renumbered, name_in, optional, waveform_in, choice_in, parameter_in, objects_in}
+use Rattle.vd_environments.specs.Got.{Got, got}
+use Rattle.vd_environments.specs.Environments.{Signals, Static, Env, unknown, or_senseless}
+use Rattle.vd_environments.specs.Commands.{Command, Skip, Choose, Leave, in_order}
+use Rattle.vd_meaning.specs.Names.{Named, number_or, name_read, position_in, unless_stopped}
+use Rattle.vd_meaning.specs.Facets.{Meaning, nth, last_of, from, flattened, known_of, arguments, of_node, at_once, expression, commanding, Waveform}
+use Rattle.vd_meaning.specs.Brackets.{or_else}
+use Rattle.vd_meaning.specs.Statements.{driving, setting}
+use Rattle.vd_meaning.specs.Meanings.{made, named_by, whole_name, piece_of, limits, limits_of_mark, ranging, target_read, target_of, process_of, assigning, jump_of, branches, listed_signals, body_of}
+use Rattle.vd_meaning_laws.specs.Agreement.{Link, IsApart, through, Alike, number_in, jump_in, AlikeCommands}
+use Rattle.vd_meaning_laws.specs.Renumbering.{AlikeMeaning, AlikeBody, renumbered, name_in, optional, waveform_in, parameter_in, objects_in}
 use Rattle.vd_meaning_laws.proofs.Agreeing.{skips_alike, sequences_alike, choices_alike, jumps_alike}
-use Rattle.vd_meaning_laws.proofs.Naming.{first_piece_same, number_or_same, function_same, call_known_same, marked_same}
-use Rattle.vd_meaning_laws.proofs.Stepping.{stepped_same, name_read_same}
+use Rattle.vd_meaning_laws.proofs.Stepping.{name_read_same}
 use Rattle.vd_meaning_laws.proofs.Parts.{nth_alike, from_alike, none_alike, known_same, reads_same, targets_same}
-use Rattle.vd_meaning_laws.proofs.Doing.{truths_alike, driving_alike, setting_alike}
+use Rattle.vd_meaning_laws.proofs.Doing.{driving_alike, setting_alike}
 use Rattle.vd_meaning_laws.proofs.Facing.{with_value, with_known, with_chosen, with_command, with_name, with_range, with_reads, with_piece, with_processes, with_targets}
 
 module _ (l : Link) (numbers : IsApart l) where
@@ -41,11 +33,37 @@ module _ (l : Link) (numbers : IsApart l) where
   pub node_alike : (n : Resolved) (text : List ℕ) (ms ns : List Meaning) → Parts ms ns → AlikeMeaning l (of_node n text ms) (of_node (renumbered l n) text ns)
   node_alike n text ms ns h =
       record {
-        text = refl; declaration = refl; mark = refl; position = refl; is_present = refl; value = refl; known = refl;
-        reads = λ i e. reads_same l numbers ms ns h e i; range = refl; name = refl; piece = λ p. refl; association = refl; choices = refl; is_open = refl;
-        mode = refl; covers = refl; chosen = λ act act' h. skips_alike l numbers; indicated = refl; fields = refl; texts = refl; numbers = refl; objects = refl;
-        parameters = refl; command = λ label. skips_alike l numbers; otherwise = λ c d h. h; cases = λ c s. skips_alike l numbers; declarations = tt;
-        bodies = tt; targets = λ i e. targets_same l numbers ms ns h e i; listening = λ r. refl; processes = tt;
+        text = refl;
+        declaration = refl;
+        mark = refl;
+        position = refl;
+        is_present = refl;
+        value = refl;
+        known = refl;
+        reads = λ i e. reads_same l numbers ms ns h e i;
+        range = refl;
+        name = refl;
+        piece = λ p. refl;
+        association = refl;
+        choices = refl;
+        is_open = refl;
+        mode = refl;
+        covers = refl;
+        chosen = λ act act' h. skips_alike l numbers;
+        indicated = refl;
+        fields = refl;
+        texts = refl;
+        numbers = refl;
+        objects = refl;
+        parameters = refl;
+        command = λ label. skips_alike l numbers;
+        otherwise = λ c d h. h;
+        cases = λ c s. skips_alike l numbers;
+        declarations = tt;
+        bodies = tt;
+        targets = λ i e. targets_same l numbers ms ns h e i;
+        listening = λ r. refl;
+        processes = tt;
       }
 
   pub waveform_alike : (v v' : Got Subtype → Env → Got (Value Scalar)) → v' ≡ (λ known e. v known (through l e)) → (act act' : Waveform → Command)

@@ -1,6 +1,6 @@
 -- What the parts of a node have with other numbers.
-use Rattle.std.proofs.Common.{◌≡◌, ℕ, zero, suc, Bool, true, false, List, [], ◌∷◌, ◌++◌, Option, Some, None, map, refl, sym, ap, ◌∙◌, subst}
-use Rattle.std.specs.Prelude.{◌==◌, ◌||◌, if◌then◌else◌, Ok, Err}
+use Rattle.std.proofs.Common.{◌≡◌, ℕ, zero, suc, Bool, true, false, List, [], ◌∷◌, Option, Some, None, map, refl, sym, ap, ◌∙◌, subst}
+use Rattle.std.specs.Prelude.{◌||◌, if◌then◌else◌, Ok}
 use Rattle.std.specs.List.{AllZip, list_any}
 use Rattle.vd_kernel.specs.Correspondence.{BothOrNone}
 use Rattle.vd_values.specs.declared.scalar.Scalar.{Scalar}
@@ -8,8 +8,7 @@ use Rattle.vd_composites.specs.declared.ranges.Bounds.{Bounds}
 use Rattle.vd_composites.specs.Stops.{◌>>=◌}
 use Rattle.vd_composites.specs.Composites.{Value}
 use Rattle.vd_environments.specs.Got.{Got}
-use Rattle.vd_environments.specs.Environments.{Signals, Static, both, Env, Argument, unknown}
-use Rattle.vd_environments.specs.Commands.{Command, Skip}
+use Rattle.vd_environments.specs.Environments.{both, Env, unknown}
 use Rattle.vd_meaning.specs.Tables.{same_type}
 use Rattle.vd_meaning.specs.Names.{and_read}
 use Rattle.vd_meaning.specs.Facets.{Meaning, no_meaning, nth, from, value_of, known_of, reads_of, targets_of, Choice}
@@ -22,11 +21,37 @@ module _ (l : Link) (numbers : IsApart l) where
   pub none_alike : AlikeMeaning l no_meaning no_meaning
   none_alike =
       record {
-        text = refl; declaration = refl; mark = refl; position = refl; is_present = refl; value = refl; known = refl; reads = refl; range = refl;
-        name = refl; piece = λ p. refl; association = refl; choices = refl; is_open = refl; mode = refl; covers = refl;
-        chosen = λ act act' h. skips_alike l numbers; indicated = refl; fields = refl; texts = refl; numbers = refl; objects = refl; parameters = refl;
-        command = λ label. skips_alike l numbers; otherwise = λ c d h. h; cases = λ c s. skips_alike l numbers; declarations = tt; bodies = tt;
-        targets = refl; listening = λ r. refl; processes = tt;
+        text = refl;
+        declaration = refl;
+        mark = refl;
+        position = refl;
+        is_present = refl;
+        value = refl;
+        known = refl;
+        reads = refl;
+        range = refl;
+        name = refl;
+        piece = λ p. refl;
+        association = refl;
+        choices = refl;
+        is_open = refl;
+        mode = refl;
+        covers = refl;
+        chosen = λ act act' h. skips_alike l numbers;
+        indicated = refl;
+        fields = refl;
+        texts = refl;
+        numbers = refl;
+        objects = refl;
+        parameters = refl;
+        command = λ label. skips_alike l numbers;
+        otherwise = λ c d h. h;
+        cases = λ c s. skips_alike l numbers;
+        declarations = tt;
+        bodies = tt;
+        targets = refl;
+        listening = λ r. refl;
+        processes = tt;
       }
 
   pub nth_alike : (k : ℕ) (ms ns : List Meaning) → AllZip (AlikeMeaning l) ms ns → AlikeMeaning l (nth k ms) (nth k ns)

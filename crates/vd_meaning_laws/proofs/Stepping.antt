@@ -1,17 +1,16 @@
 -- Parts of objects, attributes and conversions with other numbers.
-use Rattle.std.proofs.Common.{◌≡◌, ℕ, Bool, true, false, List, [], ◌∷◌, ◌++◌, Option, Some, None, map, refl, sym, ap, ◌∙◌}
-use Rattle.std.specs.Prelude.{◌==◌, ◌&&◌, ◌||◌, if◌then◌else◌, is_some, Ok, Err, Result}
+use Rattle.std.proofs.Common.{◌≡◌, ℕ, Bool, true, false, Option, Some, None, refl}
+use Rattle.std.specs.Prelude.{◌&&◌, if◌then◌else◌, Ok, Err}
 use Rattle.vd_values.specs.declared.scalar.Scalar.{Scalar}
-use Rattle.vd_composites.specs.declared.ranges.Bounds.{Bounds}
 use Rattle.vd_composites.specs.Stops.{◌>>=◌}
 use Rattle.vd_composites.specs.Composites.{Value}
-use Rattle.vd_composites.specs.Parts.{Step, part, reached}
+use Rattle.vd_composites.specs.Parts.{Step, reached}
 use Rattle.vd_composites.specs.Subtypes.{Subtype, Scalars, Arrays, Records}
 use Rattle.vd_operators.specs.declared.attributes.Side.{Side}
-use Rattle.vd_environments.specs.Got.{Got, got, is_got}
+use Rattle.vd_environments.specs.Got.{Got, got}
 use Rattle.vd_environments.specs.Environments.{Signals, Static, own_bounds, Env, Place, further}
-use Rattle.vd_meaning.specs.Names.{Named, Stepping, part_value, part_shape, part_signals, part_of_value, part_prefix, part_place, goes_on, stepped, no_name, fresh, Attribute, BoundAt, LengthOf, RangeOf, EventOf, OfType, NoAttribute, attributed, bound_value, bound_of_mark, bound_of_array, length_value, range_value, event_value, bounds_known, is_object, attribute_read, prefix_read, unless_out, and_read, scalar_type, name_read}
-use Rattle.vd_meaning_laws.specs.Agreement.{Link, IsApart, through, number_in}
+use Rattle.vd_meaning.specs.Names.{Named, Stepping, part_value, part_shape, part_signals, part_of_value, part_prefix, part_place, stepped, no_name, fresh, Attribute, BoundAt, LengthOf, RangeOf, EventOf, OfType, NoAttribute, attributed, bound_value, bound_of_mark, bound_of_array, length_value, range_value, event_value, bounds_known, is_object, attribute_read, prefix_read, unless_out, and_read, scalar_type, name_read}
+use Rattle.vd_meaning_laws.specs.Agreement.{Link, through, number_in}
 use Rattle.vd_meaning_laws.specs.Renumbering.{name_in, optional, place_in, stepping_in}
 
 module _ (l : Link) where
