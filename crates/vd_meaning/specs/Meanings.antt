@@ -22,7 +22,7 @@ use Rattle.vd_meaning.specs.Tables.{Role, ElementRole, role_of}
 use Rattle.vd_meaning.specs.Facets.{Meaning, no_meaning, nth, last_of, from, flattened, reads_of, targets_of, known_of, value_of, arguments, of_node, expression, commanding, ByChoices, ForOthers, Body}
 use Rattle.vd_meaning.specs.Brackets.{choice_of, or_else, arguments_piece, qualification_piece, bracketed_value, bracketed_known}
 use Rattle.vd_meaning.specs.Statements.{truth_of, setting, driving, giving, report, assertion, time_in, any_covers, alternatives, comparison, selecting, waiting_for, values_of_range}
-use Rattle.vd_meaning.specs.Declarations.{indication, enumeration, array_type, record_type, all_fields, for_names, new_type, new_constants, new_variables, new_objects, parameters_for, function_command}
+use Rattle.vd_meaning.specs.Declarations.{indication, enumeration, array_type, record_type, all_fields, fields_named, new_type, new_constants, new_variables, new_objects, parameters_for, function_command}
 use Rattle.vd_meaning.specs.Kinds
 
 -- ---- what a node makes: the declaration that it carries, or that of the identifier in it
@@ -166,7 +166,7 @@ meaning_of Kinds.Literals t n text ms = record (of_node n text ms) { indicated =
 meaning_of Kinds.ArrayDefinition t n text ms = record (of_node n text ms) { indicated = array_type (nth 0 ms) (nth 1 ms) }
 meaning_of Kinds.RecordDefinition t n text ms = record (of_node n text ms) { indicated = λ e. (nth 0 ms).fields e >>= λ is. Ok (record_type is) }
 meaning_of Kinds.RecordParts t n text ms = record (of_node n text ms) { fields = all_fields ms }
-meaning_of Kinds.RecordPart t n text ms = record (of_node n text ms) { fields = λ e. (nth 1 ms).indicated e >>= λ i. Ok (for_names (nth 0 ms).numbers i) }
+meaning_of Kinds.RecordPart t n text ms = record (of_node n text ms) { fields = λ e. (nth 1 ms).indicated e >>= λ i. Ok (fields_named (nth 0 ms).texts i) }
 -- declarations
 meaning_of Kinds.Identifiers t n text ms = record (of_node n text ms) { texts = flattened (λ m. m.texts) ms; numbers = flattened (λ m. m.numbers) ms }
 meaning_of Kinds.NewType t n text ms = commanding n ms (new_type (number_or (made n (nth 0 ms))) (nth 1 ms).indicated)

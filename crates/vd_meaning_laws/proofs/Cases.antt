@@ -17,7 +17,7 @@ use Rattle.vd_meaning.specs.Literals.{physical, string}
 use Rattle.vd_meaning.specs.Names.{Named, literal_known, call_known, number_or, unless_stopped, to_field, attributed, attribute_named, RangeOf, and_read}
 use Rattle.vd_meaning.specs.Facets.{Meaning, nth, from, flattened, reads_of, known_of, value_of, arguments, Waveform, Comparison}
 use Rattle.vd_meaning.specs.Statements.{truth_of, setting, driving, time_in, alternatives, comparison, selecting, values_of_range}
-use Rattle.vd_meaning.specs.Declarations.{indication, enumeration, record_type, for_names, new_type, new_constants, new_variables, new_objects, parameters_for}
+use Rattle.vd_meaning.specs.Declarations.{indication, enumeration, record_type, fields_named, new_type, new_constants, new_variables, new_objects, parameters_for}
 use Rattle.vd_meaning.specs.Meanings.{made, selection_piece, operator, target_read, body_of, meaning_of, meanings}
 use Rattle.vd_meaning.specs.Kinds
 use Rattle.vd_meaning_laws.specs.Agreement.{Link, IsApart, through, number_in, AlikeCommands}
@@ -29,7 +29,7 @@ use Rattle.vd_meaning_laws.proofs.Parts.{nth_alike, from_alike, none_alike, know
 use Rattle.vd_meaning_laws.proofs.Aggregating.{bracketed_same, bracketed_known_same}
 use Rattle.vd_meaning_laws.proofs.Bracketing.{arguments_piece_same, qualification_same}
 use Rattle.vd_meaning_laws.proofs.Doing.{truths_alike, giving_alike, report_alike, assertion_alike, any_covers_same, alternatives_alike, selecting_alike, waiting_alike, values_same, comparison_same}
-use Rattle.vd_meaning_laws.proofs.Declaring.{indication_same, array_same, all_fields_same, for_names_same, type_alike, constants_alike, variables_alike, objects_same as new_objects_same, parameters_same as new_parameters_same, functions_alike}
+use Rattle.vd_meaning_laws.proofs.Declaring.{indication_same, array_same, all_fields_same, type_alike, constants_alike, variables_alike, objects_same as new_objects_same, parameters_same as new_parameters_same, functions_alike}
 use Rattle.vd_meaning_laws.proofs.Facing
 use Rattle.vd_meaning_laws.proofs.Nodes
 
@@ -222,8 +222,7 @@ module _ (l : Link) (numbers : IsApart l) (t t' : Table) (tables : SameTable l t
         Facing.with_indicated l (Nodes.node_alike l numbers n text ms ns h) _ _ (λ i e. (part 0).fields i e >>= λ is. Ok (record_type is))
     kind_alike Kinds.RecordParts n text = Facing.with_fields l (Nodes.node_alike l numbers n text ms ns h) _ _ (λ i e. all_fields_same l numbers ms ns h e i)
     kind_alike Kinds.RecordPart n text =
-        Facing.with_fields l (Nodes.node_alike l numbers n text ms ns h) _ _
-        ((λ i e. (part 1).indicated i e >>= λ x. Ok (for_names ((part 0).numbers i) x)) ∙ (λ i e. (nth 1 ms).indicated (through l e) >>= λ x. Ok (for_names_same l numbers (nth 0 ms).numbers x i)))
+        Facing.with_fields l (Nodes.node_alike l numbers n text ms ns h) _ _ (λ i e. (part 1).indicated i e >>= λ x. Ok (fields_named ((part 0).texts i) x))
     kind_alike Kinds.Identifiers n text =
         Facing.with_numbers l (Facing.with_texts l (Nodes.node_alike l numbers n text ms ns h) _ _ (Nodes.texts_same l numbers ms ns h)) _ _ (Nodes.numbers_same l numbers ms ns h)
     kind_alike Kinds.NewType n text = new_types n text

@@ -8,12 +8,12 @@ use Rattle.vd_composites.specs.Stops.{◌>>=◌}
 use Rattle.vd_composites.specs.Composites.{Value}
 use Rattle.vd_composites.specs.Subtypes.{Subtype, fit, default_of, constrained}
 use Rattle.vd_environments.specs.Got.{Got, got, senseless}
-use Rattle.vd_environments.specs.Environments.{Static, never, own_bounds, made_narrower, Argument, Function, Env, with_object, with_function, inside, Indicated, or_senseless}
+use Rattle.vd_environments.specs.Environments.{Static, never, made_narrower, Argument, Function, Env, with_object, with_function, inside, Indicated, or_senseless}
 use Rattle.vd_environments.specs.Commands.{Command, End, Ends, Suspends, Leaves, Stops, Exit, Next, Return, run}
 use Rattle.vd_environments.specs.Functions.{Parameter, with_arguments, returned, called}
 use Rattle.vd_meaning.specs.Names.{scalar_type, scalars_of}
 use Rattle.vd_meaning.specs.Facets.{Meaning, Body}
-use Rattle.vd_meaning.specs.Declarations.{indicated_mark, narrower, indication, unconstrained_array, constrained_array, array_type, all_fields, new_type, with_objects, initial_value, constant_known, new_constants, new_variables, new_objects, parameters_for, new_function, function_command, for_names}
+use Rattle.vd_meaning.specs.Declarations.{indicated_mark, narrower, indication, unconstrained_array, constrained_array, array_type, all_fields, new_type, with_objects, initial_value, constant_known, new_constants, new_variables, new_objects, parameters_for, new_function, function_command, literals_in}
 use Rattle.vd_meaning_laws.specs.Agreement.{Link, IsApart, through, Keeps, Agree, number_in, AgreeAfter, AlikeEnds, AlikeCommands}
 use Rattle.vd_meaning_laws.specs.Renumbering.{AlikeMeaning, AlikeBody, optional, parameter_in, objects_in, default_in}
 use Rattle.vd_meaning_laws.proofs.Agreeing.{denoting_agrees, skips_alike}
@@ -40,27 +40,28 @@ module _ (l : Link) (numbers : IsApart l) where
   pub indication_same : (d : Option ℕ) (m n : Meaning) → AlikeMeaning l m n → (e : Env) → indication (number_in l d) n e ≡ indication d m (through l e)
   indication_same d m n h e = λ k. mark_same d e k >>= λ i. if h.is_present k then narrower_same m n h e i k else Ok i
 
+  literals_same : (d : Option ℕ) (e : Env) → literals_in (number_in l d) e ≡ literals_in d (through l e)
+  literals_same None e = refl
+  literals_same (Some d) e = refl
+
   array_by : (r : Option (Env → Got Bounds)) (mark : Option ℕ) (s : Static) (element : Env → Got Indicated) (e : Env)
-      → (scalar_type (number_in l mark) e >>= λ t. or_senseless (optional l r) >>= λ range. range e >>= λ b. element (through l e) >>= λ i. Ok (constrained_array t b s i))
-      ≡ (scalar_type mark (through l e) >>= λ t. or_senseless r >>= λ range. range (through l e) >>= λ b. element (through l e) >>= λ i. Ok (constrained_array t b s i))
+      → (scalar_type (number_in l mark) e >>= λ t. or_senseless (optional l r) >>= λ range. range e >>= λ b. element (through l e) >>= λ i. Ok (constrained_array t b (literals_in (number_in l mark) e) s i))
+      ≡ (scalar_type mark (through l e) >>= λ t. or_senseless r >>= λ range. range (through l e) >>= λ b. element (through l e) >>= λ i. Ok (constrained_array t b (literals_in mark (through l e)) s i))
   array_by None mark s element e = λ k. type_same l mark e k >>= λ t. senseless
-  array_by (Some r) mark s element e = λ k. type_same l mark e k >>= λ t. r (through l e) >>= λ b. element (through l e) >>= λ i. Ok (constrained_array t b s i)
+  array_by (Some r) mark s element e =
+      λ k. type_same l mark e k >>= λ t. r (through l e) >>= λ b. element (through l e) >>= λ i. Ok (constrained_array t b (literals_same mark e k) s i)
 
   pub array_same : (m n m' n' : Meaning) → AlikeMeaning l m n → AlikeMeaning l m' n' → (e : Env) → array_type n n' e ≡ array_type m m' (through l e)
   array_same m n m' n' h j e =
-      (λ k. if h.is_open k then ((h.name k).subtype e >>= scalars_of >>= λ s. j.indicated k e >>= λ i. Ok (unconstrained_array s (own_bounds ((h.name k).make e)) i))
-      else (scalar_type (h.mark k) e >>= λ t. or_senseless (h.range k) >>= λ range. range e >>= λ b. j.indicated k e >>= λ i. Ok (constrained_array t b (h.known k e) i)))
-      ∙ (λ k. if m.is_open then (m.name.subtype (through l e) >>= scalars_of >>= λ s. m'.indicated (through l e) >>= λ i. Ok (unconstrained_array s (own_bounds (m.name.make (through l e))) i))
+      (λ k. if h.is_open k then ((h.name k).subtype e >>= scalars_of >>= λ s. j.indicated k e >>= λ i. Ok (unconstrained_array s ((h.name k).make e) i))
+      else (scalar_type (h.mark k) e >>= λ t. or_senseless (h.range k) >>= λ range. range e >>= λ b. j.indicated k e >>= λ i. Ok (constrained_array t b (literals_in (h.mark k) e) (h.known k e) i)))
+      ∙ (λ k. if m.is_open then (m.name.subtype (through l e) >>= scalars_of >>= λ s. m'.indicated (through l e) >>= λ i. Ok (unconstrained_array s (m.name.make (through l e)) i))
       else array_by m.range m.mark (m.known (through l e)) m'.indicated e k)
 
   pub all_fields_same : (ms ns : List Meaning) → AllZip (AlikeMeaning l) ms ns → (e : Env) → all_fields ns e ≡ all_fields ms (through l e)
   all_fields_same [] [] h e = refl
   all_fields_same (m ∷ ms) (n ∷ ns) h e = λ k. h.0.fields k e >>= λ xs. all_fields_same ms ns h.1 e k >>= λ ys. Ok (xs ++ ys)
   all_fields_same _ _ h e = absurd h
-
-  pub for_names_same : {A : Type 0} (ns : List ℕ) (x : A) → for_names (map l.number ns) x ≡ for_names ns x
-  for_names_same [] x = refl
-  for_names_same (n ∷ ns) x = λ i. x ∷ for_names_same ns x i
 
   pub type_alike : (n : ℕ) (f : Env → Got Indicated) → AlikeCommands l (new_type n f) (new_type (l.number n) (λ e. f (through l e)))
   type_alike n f =

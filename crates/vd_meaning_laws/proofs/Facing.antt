@@ -7,7 +7,7 @@ use Rattle.vd_composites.specs.declared.ranges.Bounds.{Bounds}
 use Rattle.vd_composites.specs.Composites.{Value}
 use Rattle.vd_composites.specs.Subtypes.{Subtype}
 use Rattle.vd_environments.specs.Got.{Got}
-use Rattle.vd_environments.specs.Environments.{Signals, Static, Env, Indicated}
+use Rattle.vd_environments.specs.Environments.{Signals, Static, Env, Indicated, Field}
 use Rattle.vd_environments.specs.Commands.{Command}
 use Rattle.vd_environments.specs.Functions.{Parameter}
 use Rattle.vd_environments.specs.Processes.{Process}
@@ -59,7 +59,7 @@ module _ (l : Link) where
   pub with_indicated : {m n : Meaning} → AlikeMeaning l m n → (x y : Env → Got Indicated) → (y ≡ (λ e. x (through l e))) → AlikeMeaning l (record m { indicated = x }) (record n { indicated = y })
   with_indicated h x y z = record { text = h.text; declaration = h.declaration; mark = h.mark; position = h.position; is_present = h.is_present; value = h.value; known = h.known; reads = h.reads; range = h.range; name = h.name; piece = h.piece; association = h.association; choices = h.choices; is_open = h.is_open; mode = h.mode; covers = h.covers; chosen = h.chosen; indicated = z; fields = h.fields; texts = h.texts; numbers = h.numbers; objects = h.objects; parameters = h.parameters; command = h.command; otherwise = h.otherwise; cases = h.cases; declarations = h.declarations; bodies = h.bodies; targets = h.targets; listening = h.listening; processes = h.processes }
 
-  pub with_fields : {m n : Meaning} → AlikeMeaning l m n → (x y : Env → Got (List Indicated)) → (y ≡ (λ e. x (through l e))) → AlikeMeaning l (record m { fields = x }) (record n { fields = y })
+  pub with_fields : {m n : Meaning} → AlikeMeaning l m n → (x y : Env → Got (List Field)) → (y ≡ (λ e. x (through l e))) → AlikeMeaning l (record m { fields = x }) (record n { fields = y })
   with_fields h x y z = record { text = h.text; declaration = h.declaration; mark = h.mark; position = h.position; is_present = h.is_present; value = h.value; known = h.known; reads = h.reads; range = h.range; name = h.name; piece = h.piece; association = h.association; choices = h.choices; is_open = h.is_open; mode = h.mode; covers = h.covers; chosen = h.chosen; indicated = h.indicated; fields = z; texts = h.texts; numbers = h.numbers; objects = h.objects; parameters = h.parameters; command = h.command; otherwise = h.otherwise; cases = h.cases; declarations = h.declarations; bodies = h.bodies; targets = h.targets; listening = h.listening; processes = h.processes }
 
   pub with_texts : {m n : Meaning} → AlikeMeaning l m n → (x y : List (List ℕ)) → (y ≡ x) → AlikeMeaning l (record m { texts = x }) (record n { texts = y })
