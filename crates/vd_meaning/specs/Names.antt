@@ -434,6 +434,8 @@ abbrev pub conversion_known : ℕ → (Env → Static) → Env → Static
 conversion_known d known e = both (all_bounds (e.denotes d).make) (known e)
 
 -- A conversion of the name of a signal is still made of its scalar signals, which matters in associations.
-abbrev pub conversion : ℕ → Option ℕ → (Env → Got (Value Scalar)) → (Env → Static) → (Env → Got (List Signals)) → (Env → Got Signals) → Named
-conversion d mark operand known inner signals =
-    record (fresh (λ e. operand e >>= converted (e.denotes d).subtype) mark (conversion_known d known) inner) { signals = signals }
+abbrev pub conversion : ℕ → Option ℕ → (Env → Got (Value Scalar)) → (Env → Static) → (Env → Got (List Signals)) → Named
+conversion d mark operand known inner = fresh (λ e. operand e >>= converted (e.denotes d).subtype) mark (conversion_known d known) inner
+
+abbrev pub conversion_of : ℕ → Option ℕ → (Env → Got (Value Scalar)) → (Env → Static) → (Env → Got (List Signals)) → Named → Named
+conversion_of d mark operand known inner p = record (conversion d mark operand known inner) { signals = p.signals; is_whole = p.is_whole }

@@ -9,7 +9,7 @@ use Rattle.vd_environments.specs.Got.{Got}
 use Rattle.vd_environments.specs.Environments.{never, both, Env, unknown}
 use Rattle.vd_meaning.specs.Tables.{Table, Role, ConstantRole, VariableRole, SignalRole, LiteralRole, FunctionRole, MarkRole, ElementRole, NoRole, role_of, followed}
 use Rattle.vd_meaning.specs.Operators.{Operation, Apply, Lazily, Join, TruthText, Edge, NoOperation, edge}
-use Rattle.vd_meaning.specs.Names.{Named, Callee, NoCallee, Attributed, fresh, call, conversion, stepped, to_element, to_slice, type_attribute_value, number_or, and_read}
+use Rattle.vd_meaning.specs.Names.{Named, Callee, NoCallee, Attributed, fresh, call, conversion, conversion_of, stepped, to_element, to_slice, type_attribute_value, number_or, and_read}
 use Rattle.vd_meaning.specs.Facets.{Meaning, nth, value_of, known_of}
 use Rattle.vd_meaning.specs.Brackets.{arguments_for, argument_read, called_with, operation_called, element_or_slice, by_role, by_callee, arguments_piece, bracketed_value, bracketed_known, qualification_piece}
 use Rattle.vd_meaning_laws.specs.Agreement.{Link, IsApart, through, number_in}
@@ -58,7 +58,7 @@ module _ (l : Link) (numbers : IsApart l) (t t' : Table) (tables : SameTable l t
 
   converted : (n : Resolved) (p : Named) → by_role MarkRole t' (renumbered l n) ns (name_in l p) ≡ name_in l (by_role MarkRole t n ms p)
   converted n p =
-      λ i. conversion (number_or_same l numbers t t' tables n.declaration i) (number_in l n.mark) (first_alike.value i unknown) (first_alike.known i) (λ e. read_same p e i) (first_alike.name i).signals
+      λ i. conversion_of (number_or_same l numbers t t' tables n.declaration i) (number_in l n.mark) (first_alike.value i unknown) (first_alike.known i) (λ e. read_same p e i) (first_alike.name i)
 
   part_same : (r : Option (Env → Got Bounds)) (n : Resolved) (p : Named)
       → element_or_slice (optional l r) (renumbered l n) ns (name_in l p) ≡ name_in l (element_or_slice r n ms p)
@@ -93,6 +93,6 @@ module _ (l : Link) (numbers : IsApart l) (t t' : Table) (tables : SameTable l t
   pub qualification_same : (n : Resolved) (p : Named) → qualification_piece t' (renumbered l n) ns (name_in l p) ≡ name_in l (qualification_piece t n ms p)
   qualification_same n p =
       (λ i. conversion (number_or_same l numbers t t' tables n.declaration i) (number_in l n.mark)
-      (λ e. bracketed_value (number_in l n.mark) ns (Ok (e.denotes (number_or_same l numbers t t' tables n.declaration i)).subtype) e) (bracketed_known ns) (argument_read (name_in l p) ns) (λ _. Rattle.vd_environments.specs.Got.senseless))
+      (λ e. bracketed_value (number_in l n.mark) ns (Ok (e.denotes (number_or_same l numbers t t' tables n.declaration i)).subtype) e) (bracketed_known ns) (argument_read (name_in l p) ns))
       ∙ (λ i. conversion (l.number (number_or n.declaration)) (number_in l n.mark)
-      (λ e. bracketed_same l numbers n.mark ms ns h (Ok (e.denotes (l.number (number_or n.declaration))).subtype) e i) (λ e. bracketed_known_same l numbers ms ns h e i) (λ e. read_same p e i) (λ _. Rattle.vd_environments.specs.Got.senseless))
+      (λ e. bracketed_same l numbers n.mark ms ns h (Ok (e.denotes (l.number (number_or n.declaration))).subtype) e i) (λ e. bracketed_known_same l numbers ms ns h e i) (λ e. read_same p e i))
