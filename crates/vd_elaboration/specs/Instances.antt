@@ -86,11 +86,11 @@ unless_open (Some a) = if a.meaning.is_open then None else Some a
 abbrev pub actual_for : ℕ → ℕ → List Actual → Option Actual
 actual_for k d as' = unless_open (or_placed (named_actual d as') (nth_actual k as'))
 
--- ---- generics: one by one, its subtype, then its actual in the surroundings or its default, then its conversion
+-- ---- generics: one by one, its subtype, then its actual in the surroundings or its default, then its conversion there
 
 abbrev pub generic_value : Scope → Scope → Env → Env → Option (Got Subtype → Env → Got (Value Scalar)) → Indicated → Option Actual → Built (Value Scalar)
-generic_value outer inner e f default i (Some a) = evaluated outer (a.meaning.value (Ok i.subtype) e)
-generic_value outer inner e f (Some default) i None = evaluated inner (default (Ok i.subtype) f)
+generic_value outer inner e f default i (Some a) = evaluated outer (a.meaning.value (Ok i.subtype) e >>= λ v. got (fit i.subtype v))
+generic_value outer inner e f (Some default) i None = evaluated inner (default (Ok i.subtype) f >>= λ v. got (fit i.subtype v))
 generic_value outer inner e f None i None = evaluated inner senseless
 
 -- outside of processes a generic is known in elaboration
@@ -99,8 +99,8 @@ known_early = record { is_local = false; is_global = true }
 
 abbrev pub with_generic : Scope → Scope → Env → ℕ → Objects → Option Actual → Env → Built Env
 with_generic outer inner e d o actual f =
-    evaluated inner (o.indicated f) >>= λ i. generic_value outer inner e f o.default i actual >>= λ v. evaluated outer (got (fit i.subtype v)) >>= λ w.
-    Ok (with_constant d i.subtype i.make w known_early f)
+    evaluated inner (o.indicated f) >>= λ i. generic_value outer inner e f o.default i actual >>= λ v.
+    Ok (with_constant d i.subtype i.make v known_early f)
 
 -- the generics that are declared together, of which the first has this place
 abbrev pub with_generics_of : Scope → Scope → Env → (ℕ → ℕ → Option Actual) → Objects → ℕ → List ℕ → Env → Built Env
