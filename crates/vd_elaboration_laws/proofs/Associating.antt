@@ -230,7 +230,7 @@ module _ (l : Link) (numbers : IsApart l) where
     mapped_count [] = refl
     mapped_count (d ∷ ds) = ap suc (mapped_count ds)
 
-    implicit_alike : (k : ℕ) (ps : List Ports) (s t : State) → AlikeState l s t → AlikeStates l (for_implicit go x k ps s) (for_implicit go' y k (map (ports_in l) ps) t)
+    pub implicit_alike : (k : ℕ) (ps : List Ports) (s t : State) → AlikeState l s t → AlikeStates l (for_implicit go x k ps s) (for_implicit go' y k (map (ports_in l) ps) t)
     implicit_alike k [] s t j = j
     implicit_alike k (p ∷ ps) s t j =
         built_then (AlikeState l) (AlikeState l) _ _ _ _ (names_alike p k p.objects.numbers p.names s t j) (λ u v i.
@@ -265,13 +265,13 @@ module _ (l : Link) (numbers : IsApart l) where
   -- ---- instances
 
   module _ (views : List View) (scope : Scope) (entity : EntityText) (x y : Instance) (h : AlikeInstance l x y) where
-    count_alike : (p : Ports) (name : List ℕ) (a b : Actual) → AlikeActual l a b → (s t : State) → AlikeState l s t
+    pub count_alike : (p : Ports) (name : List ℕ) (a b : Actual) → AlikeActual l a b → (s t : State) → AlikeState l s t
         → AlikeStates l (count_implicit views scope entity x p name a s) (count_implicit (map (view_under l) views) scope (entity_under entity) y (ports_in l p) name b t)
     count_alike p name a b k s t j =
         evaluated_then (AlikeState l) scope _ _ _ _ (subtype_same views entity x y h p s.env t.env j.env) (λ i.
         built_then (AlikeMade l) (AlikeState l) (counted (size_of_object i) s.made) (counted (size_of_object i) t.made) _ _ (counted_alike l numbers (size_of_object i) s.made t.made j.made) (λ m n g. record { env = j.env; made = g }))
 
-    make_alike : (p : Ports) (name : List ℕ) (a b : Actual) → AlikeActual l a b → (s t : State) → AlikeState l s t
+    pub make_alike : (p : Ports) (name : List ℕ) (a b : Actual) → AlikeActual l a b → (s t : State) → AlikeState l s t
         → AlikeStates l (make_implicit views scope entity x p name a s) (make_implicit (map (view_under l) views) scope (entity_under entity) y (ports_in l p) name b t)
     make_alike p name a b k s t j =
         evaluated_then (AlikeState l) scope _ _ _ _ (subtype_same views entity x y h p s.env t.env j.env) (λ i.

@@ -26,7 +26,7 @@ module _ (l : Link) (numbers : IsApart l) where
       settled_agree cs ds h.1 _ _ (declared_by_agrees (run c e).end (run d e').end (h.0 1 e e' a).end e e' a)
   settled_agree _ _ h e e' a = absurd h
 
-  ended : (x x' : End) → AlikeEnds l (AlikeUpTo l 0) x x' → AgreeAfter l (declared_end x) (declared_end x')
+  pub ended : (x x' : End) → AlikeEnds l (AlikeUpTo l 0) x x' → AgreeAfter l (declared_end x) (declared_end x')
   ended (Ends f) (Ends f') h = h
   ended (Suspends f p b) (Suspends f' q b') h = refl
   ended (Leaves f j) (Leaves f' j') h = refl

@@ -17,6 +17,9 @@ use Rattle.vd_meaning_laws.specs.Agreement.{Link, through, number_in, AlikeComma
 use Rattle.vd_meaning_laws.specs.Renumbering.{AlikeMeaning, AlikeBody, AlikeProcess, name_in, optional, waveform_in, choice_in, parameter_in, objects_in}
 
 module _ (l : Link) where
+  pub with_text : {m n : Meaning} → AlikeMeaning l m n → (x y : List ℕ) → (y ≡ x) → AlikeMeaning l (record m { text = x }) (record n { text = y })
+  with_text h x y z = record { text = z; declaration = h.declaration; mark = h.mark; position = h.position; is_present = h.is_present; value = h.value; known = h.known; reads = h.reads; range = h.range; name = h.name; piece = h.piece; association = h.association; choices = h.choices; is_open = h.is_open; mode = h.mode; covers = h.covers; chosen = h.chosen; indicated = h.indicated; fields = h.fields; texts = h.texts; numbers = h.numbers; objects = h.objects; parameters = h.parameters; command = h.command; otherwise = h.otherwise; cases = h.cases; declarations = h.declarations; bodies = h.bodies; targets = h.targets; listening = h.listening; processes = h.processes }
+
   pub with_declaration : {m n : Meaning} → AlikeMeaning l m n → (x y : Option ℕ) → (y ≡ number_in l x) → AlikeMeaning l (record m { declaration = x }) (record n { declaration = y })
   with_declaration h x y z = record { text = h.text; declaration = z; mark = h.mark; position = h.position; is_present = h.is_present; value = h.value; known = h.known; reads = h.reads; range = h.range; name = h.name; piece = h.piece; association = h.association; choices = h.choices; is_open = h.is_open; mode = h.mode; covers = h.covers; chosen = h.chosen; indicated = h.indicated; fields = h.fields; texts = h.texts; numbers = h.numbers; objects = h.objects; parameters = h.parameters; command = h.command; otherwise = h.otherwise; cases = h.cases; declarations = h.declarations; bodies = h.bodies; targets = h.targets; listening = h.listening; processes = h.processes }
 
