@@ -258,3 +258,96 @@ module _ (l : Link) (numbers : IsApart l) where
 
   label_alike : (f g : List ℕ → Elaborating) → ((label : List ℕ) → AlikeElaborating l (f label) (g label)) → (x y : List ℕ) → y ≡ x → AlikeElaborating l (f x) (g y)
   label_alike f g h x y e = subst (λ y. AlikeElaborating l (f x) (g y)) (sym e) (h x)
+
+  value_facet : (m n : Meaning) → AlikeMeaning l m n → value_of n ≡ (λ e. value_of m (through l e))
+  value_facet m n h = λ i. h.value i Rattle.vd_environments.specs.Environments.unknown
+
+  -- ---- a case for each kind
+
+  unit_zip : (u v : Unit') → AlikeUnit l u v → AllZip (AlikeUnit l) (u ∷ []) (v ∷ [])
+  unit_zip u v h = (h, tt)
+
+  package_units : (b c : Bool) → c ≡ b → (x y : List ℕ) → y ≡ x → (f g : Elaborating) → AlikeElaborating l f g
+      → AllZip (AlikeUnit l) (if b then [] else PackageUnit x f ∷ []) (if c then [] else PackageUnit y g ∷ [])
+  package_units true c e x y k f g h = subst (λ c. AllZip (AlikeUnit l) [] (if c then [] else PackageUnit y g ∷ [])) (sym e) tt
+  package_units false c e x y k f g h = subst (λ c. AllZip (AlikeUnit l) (PackageUnit x f ∷ []) (if c then [] else PackageUnit y g ∷ [])) (sym e) ((k, h), tt)
+
+  module _ (ps qs : List Part) (h : PartsAlike ps qs) where
+    part : (k : ℕ) → AlikePart l (nth k ps) (nth k qs)
+    part k = nth_alike k ps qs h
+
+    pub part_alike : (k : Parts.Kind) (n : Resolved) (m m' : Meaning) → AlikeMeaning l m m' → AlikePart l (Parts.part_of k n m ps) (Parts.part_of k (renumbered l n) m' qs)
+    part_alike Parts.Gathering n m m' a = gathering_alike m m' a ps qs h
+    part_alike Parts.Leaf' n m m' a =
+        Facing.with_formal l (Facing.with_named l (gathering_alike m m' a ps qs h) _ _ (list_same l numbers n.declaration)) _ _ refl
+    part_alike Parts.Formal n m m' a =
+        Facing.with_formal l (gathering_alike m m' a ps qs h) _ _ ((λ i. or_else (number_in l n.declaration) ((last_alike ps qs h).formal i)) ∙ either_same l numbers n.declaration (last_of ps).formal)
+    part_alike Parts.Choice' n m m' a = Facing.with_formal l (gathering_alike m m' a ps qs h) _ _ (part 0).formal
+    part_alike Parts.Inner n m m' a = Facing.with_formal l (gathering_alike m m' a ps qs h) _ _ (part 0).formal
+    part_alike Parts.SelectedText n m m' a = gathering_alike _ _ (with_text l a _ _ (last_alike ps qs h).meaning.text) ps qs h
+    part_alike Parts.Map n m m' a = Facing.with_actuals l (gathering_alike m m' a ps qs h) _ _ (actuals_alike ps qs h)
+    part_alike (Parts.Word mode) n m m' a = Facing.with_mode l (gathering_alike m m' a ps qs h) _ _ refl
+    part_alike Parts.ViewWord n m m' a =
+        Facing.with_mode l (gathering_alike m m' a ps qs h) _ _ (λ i. ByView ((part 0).meaning.declaration i) ((part 1).meaning.is_present i))
+    part_alike Parts.PortList n m m' a =
+        Facing.with_ports l (gathering_alike m m' a ps qs h) _ _
+        (λ i. record { names = (part 1).meaning.texts i; objects = record { numbers = (part 1).meaning.numbers i; indicated = (part 3).meaning.indicated i; default = default_same _ _ (part 4).meaning i }; has_subtype = true; named = (part 3).named i; mode = (part 2).mode i } ∷ [])
+    part_alike Parts.ViewPorts n m m' a =
+        Facing.with_ports l (gathering_alike m m' a ps qs h) _ _
+        (λ i. record { names = (part 1).meaning.texts i; objects = record { numbers = (part 1).meaning.numbers i; indicated = (part 4).meaning.indicated i; default = None }; has_subtype = (part 4).meaning.is_present i; named = (part 4).named i; mode = ByView ((part 2).meaning.declaration i) ((part 3).meaning.is_present i) } ∷ [])
+    part_alike Parts.ViewPart n m m' a =
+        Facing.with_elements l (gathering_alike m m' a ps qs h) _ _
+        ((λ i. Parts.element_parts ((part 0).meaning.texts i) ((part 1).mode i)) ∙ elements_same (nth 0 ps).meaning.texts (nth 1 ps).mode)
+    part_alike Parts.ViewText n m m' a =
+        Facing.with_views l (gathering_alike m m' a ps qs h) _ _
+        (λ i. record { view = made_number l numbers n _ _ (part 0).meaning i; mark = (part 1).meaning.declaration i; elements = (part 2).elements i } ∷ [])
+    part_alike Parts.Signals' n m m' a =
+        Facing.with_declaring l (gathering_alike m m' a ps qs h) _ _
+        (subst (λ x. AlikeElaborating l (Parts.new_signals (nth 1 ps).meaning (nth 2 ps).meaning (nth 0 ps).meaning.numbers (nth 0 ps).meaning.texts) (Parts.new_signals (nth 1 qs).meaning (nth 2 qs).meaning x (nth 0 qs).meaning.texts)) (sym (part 0).meaning.numbers)
+        (subst (λ x. AlikeElaborating l (Parts.new_signals (nth 1 ps).meaning (nth 2 ps).meaning (nth 0 ps).meaning.numbers (nth 0 ps).meaning.texts) (Parts.new_signals (nth 1 qs).meaning (nth 2 qs).meaning (map l.number (nth 0 ps).meaning.numbers) x)) (sym (part 0).meaning.texts)
+        (signals_alike _ _ _ _ (part 1).meaning (part 2).meaning (nth 0 ps).meaning.numbers (nth 0 ps).meaning.texts)))
+    part_alike Parts.Declared n m m' a = Facing.with_declaring l (gathering_alike m m' a ps qs h) _ _ (commanded_alike m m' a)
+    part_alike Parts.Declarations n m m' a =
+        Facing.with_declaring l (gathering_alike m m' a ps qs h) _ _ (after_alike _ _ (mapped (λ p. p.declaring) (λ p q x. x.declaring) ps qs h))
+    part_alike Parts.Processes' n m m' a =
+        Facing.with_elaborating l (gathering_alike m m' a ps qs h) _ _ (λ label h h' hs scope s t b. processes_alike l numbers scope m.processes m'.processes a.processes s t b)
+    part_alike Parts.Labelled n m m' a =
+        Facing.with_elaborating l (Facing.with_ahead l (gathering_alike m m' a ps qs h) _ _ (λ label. label_alike (nth 1 ps).ahead (nth 1 qs).ahead (part 1).ahead _ _ (part 0).meaning.text)) _ _
+        (λ label. label_alike (nth 1 ps).elaborating (nth 1 qs).elaborating (part 1).elaborating _ _ (part 0).meaning.text)
+    part_alike Parts.Instantiation n m m' a =
+        Facing.with_elaborating l (Facing.with_ahead l (gathering_alike m m' a ps qs h) _ _ (λ label g g' hs scope s t b. hs.ahead scope _ _ (instance_alike label ps qs h) s t b)) _ _
+        (λ label g g' hs scope s t b. hs.instance scope _ _ (instance_alike label ps qs h) s t b)
+    part_alike Parts.IfGenerate n m m' a =
+        Facing.with_elaborating l (gathering_alike m m' a ps qs h) _ _ (λ label.
+        holds_alike _ _ (part 0).meaning _ _ _ _ (generated_alike _ _ (part 1) (label_of label))
+        ((part 2).otherwise label _ _ (there_alike _ _ (part 3) _ _ (generated_alike _ _ (part 3) (label_of label)))))
+    part_alike Parts.Elsifs n m m' a = Facing.with_otherwise l (gathering_alike m m' a ps qs h) _ _ (otherwise_alike ps qs h)
+    part_alike Parts.Elsif n m m' a =
+        Facing.with_otherwise l (gathering_alike m m' a ps qs h) _ _ (λ label f g x. holds_alike _ _ (part 0).meaning _ _ _ _ (generated_alike _ _ (part 1) (label_of label)) x)
+    part_alike Parts.ForGenerate n m m' a =
+        Facing.with_elaborating l (gathering_alike m m' a ps qs h) _ _ (λ label.
+        subst (λ d. AlikeElaborating l (Parts.for_generate (nth 2 ps) (nth 1 ps).meaning label (number_or (made n (nth 0 ps).meaning))) (Parts.for_generate (nth 2 qs) (nth 1 qs).meaning label d)) (sym (made_number l numbers n _ _ (part 0).meaning))
+        (for_alike _ _ (part 2) _ _ (part 1).meaning label (number_or (made n (nth 0 ps).meaning))))
+    part_alike Parts.CaseGenerate n m m' a =
+        Facing.with_elaborating l (gathering_alike m m' a ps qs h) _ _ (λ label.
+        subst (λ v. AlikeElaborating l ((nth 1 ps).cases label (value_of (nth 0 ps).meaning)) ((nth 1 qs).cases label v)) (λ i. sym (value_facet (nth 0 ps).meaning (nth 0 qs).meaning (part 0).meaning) i)
+        ((part 1).cases label (value_of (nth 0 ps).meaning)))
+    part_alike Parts.Alternatives n m m' a = Facing.with_cases l (gathering_alike m m' a ps qs h) _ _ (covering_alike ps qs h)
+    part_alike Parts.Alternative n m m' a =
+        Facing.with_region l (gathering_alike _ _ (with_covers l a _ _ (part 0).meaning.covers) ps qs h) _ _ (part 1).region
+    part_alike Parts.Body n m m' a =
+        Facing.with_region l (gathering_alike m m' a ps qs h) _ _ (region_alike (nth 0 ps ∷ []) (nth 0 qs ∷ []) (from 1 ps) (from 1 qs) (part 0, tt) (from_alike 1 ps qs h))
+    part_alike Parts.Statements n m m' a = Facing.with_region l (gathering_alike m m' a ps qs h) _ _ (region_alike [] [] ps qs tt h)
+    part_alike Parts.Entity n m m' a =
+        Facing.with_units l (gathering_alike m m' a ps qs h) _ _ (unit_zip (EntityUnit (nth 0 ps).meaning.text (nth 1 ps).meaning.objects (nth 2 ps).ports) (EntityUnit (nth 0 qs).meaning.text (nth 1 qs).meaning.objects (nth 2 qs).ports) ((part 0).meaning.text, (part 1).meaning.objects, (part 2).ports))
+    part_alike Parts.Architecture n m m' a =
+        Facing.with_units l (gathering_alike m m' a ps qs h) _ _
+        (unit_zip (ArchitectureUnit (nth 0 ps).meaning.text (nth 1 ps).meaning.text (λ h scope s. (nth 2 ps).declaring h scope s >>= (nth 3 ps).region h scope)) (ArchitectureUnit (nth 0 qs).meaning.text (nth 1 qs).meaning.text (λ h scope s. (nth 2 qs).declaring h scope s >>= (nth 3 qs).region h scope))
+        ((part 0).meaning.text, (part 1).meaning.text, λ g g' hs scope s t b.
+        built_then (AlikeState l) (AlikeState l) _ _ _ _ ((part 2).declaring g g' hs scope s t b) ((part 3).region g g' hs scope)))
+    part_alike Parts.Package n m m' a =
+        Facing.with_units l (gathering_alike m m' a ps qs h) _ _
+        (package_units (nth 1 ps).meaning.is_present (nth 1 qs).meaning.is_present (part 1).meaning.is_present _ _ (part 0).meaning.text _ _ (part 2).declaring)
+    part_alike Parts.PackageBody n m m' a =
+        Facing.with_units l (gathering_alike m m' a ps qs h) _ _
+        (unit_zip (PackageUnit (nth 0 ps).meaning.text (nth 1 ps).declaring) (PackageUnit (nth 0 qs).meaning.text (nth 1 qs).declaring) ((part 0).meaning.text, (part 1).declaring))
