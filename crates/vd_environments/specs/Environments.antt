@@ -73,8 +73,8 @@ is_static s = s.is_local || s.is_global
 
 -- ---- what subtypes are made of beside their bounds
 
--- Of a scalar the literals of its type, as they are written, and whether signals of it are resolved. And of its range, or of the bounds of an array, how
--- static they are.
+-- Of a scalar the literals of its type, as they are written, and whether signals of it are resolved; of an array the literals of its index type;
+-- of a record the names of its fields. And of a range and of the bounds of an array how static they are.
 pub record ScalarMake : Type 0 where
   pub literals : List (List ℕ)
   pub is_resolved : Bool
@@ -82,12 +82,12 @@ pub record ScalarMake : Type 0 where
 mutual
   pub data Make : Type 0 where
     OfScalar : (scalar : ScalarMake) (range : Static) → Make
-    OfElements : (bounds : Static) (element : Make) → Make
+    OfElements : (index : List (List ℕ)) (bounds : Static) (element : Make) → Make
     OfFields : (fields : Makes) → Make
 
   pub data Makes : Type 0 where
     no_makes : Makes
-    and_make : (first : Make) (rest : Makes) → Makes
+    and_make : (name : List ℕ) (first : Make) (rest : Makes) → Makes
 
 abbrev pub no_make : Make
 no_make = OfScalar (record { literals = []; is_resolved = false }) never
@@ -95,33 +95,38 @@ no_make = OfScalar (record { literals = []; is_resolved = false }) never
 -- of its own bounds or range, and of all bounds in it
 abbrev pub own_bounds : Make → Static
 own_bounds (OfScalar scalar range) = range
-own_bounds (OfElements bounds element) = bounds
+own_bounds (OfElements index bounds element) = bounds
 own_bounds (OfFields fields) = always
 
 abbrev mutual
   pub all_bounds : Make → Static
   all_bounds (OfScalar scalar range) = range
-  all_bounds (OfElements bounds element) = both bounds (all_bounds element)
+  all_bounds (OfElements index bounds element) = both bounds (all_bounds element)
   all_bounds (OfFields fields) = bounds_of_fields fields
 
   pub bounds_of_fields : Makes → Static
   bounds_of_fields no_makes = always
-  bounds_of_fields (and_make m ms) = both (all_bounds m) (bounds_of_fields ms)
+  bounds_of_fields (and_make name m ms) = both (all_bounds m) (bounds_of_fields ms)
 
 -- with a constraint
 abbrev pub made_narrower : Static → Make → Make
 made_narrower s (OfScalar scalar range) = OfScalar scalar (both s range)
-made_narrower s (OfElements bounds element) = OfElements (both s bounds) element
+made_narrower s (OfElements index bounds element) = OfElements index (both s bounds) element
 made_narrower s (OfFields fields) = OfFields fields
 
 abbrev pub element_make : Make → Make
-element_make (OfElements bounds element) = element
+element_make (OfElements index bounds element) = element
 element_make _ = no_make
+
+-- of a slice with such bounds
+abbrev pub sliced_make : Static → Make → Make
+sliced_make known (OfElements index bounds element) = OfElements index known element
+sliced_make known _ = no_make
 
 abbrev pub nth_make : ℕ → Makes → Make
 nth_make n no_makes = no_make
-nth_make zero (and_make m ms) = m
-nth_make (suc n) (and_make m ms) = nth_make n ms
+nth_make zero (and_make name m ms) = m
+nth_make (suc n) (and_make name m ms) = nth_make n ms
 
 abbrev pub field_make : ℕ → Make → Make
 field_make n (OfFields fields) = nth_make n fields
@@ -135,12 +140,12 @@ literals_of _ = []
 abbrev mutual
   pub made_inside : Make → Make
   made_inside (OfScalar scalar range) = OfScalar scalar (record range { is_global = false })
-  made_inside (OfElements bounds element) = OfElements (record bounds { is_global = false }) (made_inside element)
+  made_inside (OfElements index bounds element) = OfElements index (record bounds { is_global = false }) (made_inside element)
   made_inside (OfFields fields) = OfFields (all_made_inside fields)
 
   pub all_made_inside : Makes → Makes
   all_made_inside no_makes = no_makes
-  all_made_inside (and_make m ms) = and_make (made_inside m) (all_made_inside ms)
+  all_made_inside (and_make name m ms) = and_make name (made_inside m) (all_made_inside ms)
 
 -- ---- declarations
 
@@ -213,7 +218,7 @@ made_here e make = if e.is_inside then made_inside make else make
 
 -- An object of an unconstrained array type has bounds that no text gives: those of its value.
 abbrev pub bounds_of_object : Subtype → Make → Make
-bounds_of_object (Arrays index None element) (OfElements bounds make) = OfElements (only_global bounds) make
+bounds_of_object (Arrays index None element) (OfElements literals bounds make) = OfElements literals (only_global bounds) make
 bounds_of_object _ make = make
 
 -- an object of a subtype, with a value
@@ -250,6 +255,11 @@ further step p = record { object = p.object; steps = p.steps ++ step ∷ [] }
 pub record Indicated : Type 0 where
   pub subtype : Subtype
   pub make : Make
+
+-- a field of a record type
+pub record Field : Type 0 where
+  pub name : List ℕ
+  pub indicated : Indicated
 
 abbrev pub or_senseless : {A : Type 0} → Option A → Got A
 or_senseless None = senseless

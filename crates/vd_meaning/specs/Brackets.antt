@@ -15,7 +15,7 @@ use Rattle.vd_environments.specs.Got.{Got, got, senseless, all_got}
 use Rattle.vd_environments.specs.Environments.{Signals, Static, always, both, only_global, Argument, Env, or_senseless, unknown}
 use Rattle.vd_meaning.specs.Tables.{Table, Role, FunctionRole, MarkRole, role_of, same_type, followed, is_predefined}
 use Rattle.vd_meaning.specs.Operators.{Operation, Edge, operation, edge, marked}
-use Rattle.vd_meaning.specs.Names.{Named, Callee, NoCallee, Attributed, fresh, call, conversion, stepped, to_element, to_slice, type_attribute_value, number_or, and_read, bounds_of_subtype, nth_subtype, position_in}
+use Rattle.vd_meaning.specs.Names.{Named, Callee, NoCallee, Attributed, fresh, call, conversion, conversion_of, stepped, to_element, to_slice, type_attribute_value, number_or, and_read, bounds_of_subtype, nth_subtype, position_in}
 use Rattle.vd_meaning.specs.Facets.{Meaning, nth, value_of, known_of, reads_of, Association, Positional, ByChoices, ForOthers, Choice}
 
 -- ---- choices
@@ -86,7 +86,7 @@ abbrev pub by_role : Role → Table → Resolved → List Meaning → Named → 
 by_role FunctionRole t n ms p =
     called_with (operation_called t (followed t (number_or n.declaration))) t (followed t (number_or n.declaration)) n ms p
 by_role MarkRole t n ms p =
-    conversion (number_or n.declaration) n.mark (value_of (nth 0 ms)) (nth 0 ms).known (argument_read p ms) (nth 0 ms).name.signals
+    conversion_of (number_or n.declaration) n.mark (value_of (nth 0 ms)) (nth 0 ms).known (argument_read p ms) (nth 0 ms).name
 by_role _ t n ms p = element_or_slice (nth 0 ms).range n ms p
 
 abbrev pub by_callee : Callee → Table → Resolved → List Meaning → Named → Named
@@ -235,4 +235,4 @@ bracketed_known ms e = only_global (known_of ms e)
 -- a qualified expression: the mark gives the subtype
 abbrev pub qualification_piece : Table → Resolved → List Meaning → Named → Named
 qualification_piece t n ms p =
-    conversion (number_or n.declaration) n.mark (λ e. bracketed_value n.mark ms (Ok (e.denotes (number_or n.declaration)).subtype) e) (bracketed_known ms) (argument_read p ms) (λ _. senseless)
+    conversion (number_or n.declaration) n.mark (λ e. bracketed_value n.mark ms (Ok (e.denotes (number_or n.declaration)).subtype) e) (bracketed_known ms) (argument_read p ms)

@@ -10,7 +10,7 @@ use Rattle.vd_composites.specs.Scalars.{whole_range}
 use Rattle.vd_composites.specs.Composites.{Value}
 use Rattle.vd_composites.specs.Subtypes.{Subtype, Scalars, Arrays, Records, Subtypes, no_more, and_more, fit, default_of, constrained}
 use Rattle.vd_environments.specs.Got.{Got, got}
-use Rattle.vd_environments.specs.Environments.{Static, always, never, OfScalar, OfElements, OfFields, Makes, no_makes, and_make, made_narrower, own_bounds, all_bounds, Env, with_object, with_subtype, with_function, Indicated, or_senseless}
+use Rattle.vd_environments.specs.Environments.{Static, always, never, OfScalar, OfElements, OfFields, Makes, no_makes, and_make, Make, made_narrower, own_bounds, all_bounds, literals_of, Env, with_object, with_subtype, with_function, Indicated, Field, or_senseless}
 use Rattle.vd_environments.specs.Commands.{Command, Skip, acting}
 use Rattle.vd_environments.specs.Functions.{Parameter, called}
 use Rattle.vd_meaning.specs.Names.{scalars_of, scalar_type}
@@ -45,37 +45,43 @@ enumeration literals =
     }
 
 -- An array type of any bounds has the index subtype of a mark; another one has a range, which is its index subtype and its bounds.
-abbrev pub unconstrained_array : ScalarSubtype → Static → Indicated → Indicated
-unconstrained_array index known element =
-    record { subtype = Arrays index None element.subtype; make = OfElements known element.make }
+abbrev pub unconstrained_array : ScalarSubtype → Make → Indicated → Indicated
+unconstrained_array index make element =
+    record { subtype = Arrays index None element.subtype; make = OfElements (literals_of make) (own_bounds make) element.make }
 
-abbrev pub constrained_array : ScalarType → Bounds → Static → Indicated → Indicated
-constrained_array t b known element =
-    record { subtype = Arrays (record { of_type = t; range = b }) (Some b) element.subtype; make = OfElements known element.make }
+abbrev pub constrained_array : ScalarType → Bounds → List (List ℕ) → Static → Indicated → Indicated
+constrained_array t b literals known element =
+    record { subtype = Arrays (record { of_type = t; range = b }) (Some b) element.subtype; make = OfElements literals known element.make }
+
+-- the literals of a type
+abbrev pub literals_in : Option ℕ → Env → List (List ℕ)
+literals_in None e = []
+literals_in (Some d) e = literals_of (e.denotes d).make
 
 -- the index, then the elements
 abbrev pub array_type : Meaning → Meaning → Env → Got Indicated
 array_type index element e =
-    if index.is_open then (index.name.subtype e >>= scalars_of >>= λ s. element.indicated e >>= λ i. Ok (unconstrained_array s (own_bounds (index.name.make e)) i))
-    else (scalar_type index.mark e >>= λ t. or_senseless index.range >>= λ range. range e >>= λ b. element.indicated e >>= λ i. Ok (constrained_array t b (index.known e) i))
+    if index.is_open
+    then (index.name.subtype e >>= scalars_of >>= λ s. element.indicated e >>= λ i. Ok (unconstrained_array s (index.name.make e) i))
+    else (scalar_type index.mark e >>= λ t. or_senseless index.range >>= λ range. range e >>= λ b. element.indicated e >>= λ i.
+    Ok (constrained_array t b (literals_in index.mark e) (index.known e) i))
 
-abbrev pub subtypes_of : List Indicated → Subtypes
+abbrev pub subtypes_of : List Field → Subtypes
 subtypes_of [] = no_more
-subtypes_of (i ∷ is) = and_more i.subtype (subtypes_of is)
+subtypes_of (f ∷ fs) = and_more f.indicated.subtype (subtypes_of fs)
 
-abbrev pub makes_of : List Indicated → Makes
+abbrev pub makes_of : List Field → Makes
 makes_of [] = no_makes
-makes_of (i ∷ is) = and_make i.make (makes_of is)
+makes_of (f ∷ fs) = and_make f.name f.indicated.make (makes_of fs)
 
-abbrev pub record_type : List Indicated → Indicated
+abbrev pub record_type : List Field → Indicated
 record_type fields = record { subtype = Records (subtypes_of fields); make = OfFields (makes_of fields) }
 
--- as many of one as there are names
-abbrev pub for_names : {A : Type 0} → List ℕ → A → List A
-for_names [] x = []
-for_names (n ∷ ns) x = x ∷ for_names ns x
+-- a field for each name
+abbrev pub fields_named : List (List ℕ) → Indicated → List Field
+fields_named names i = map (λ n. record { name = n; indicated = i }) names
 
-abbrev pub all_fields : List Meaning → Env → Got (List Indicated)
+abbrev pub all_fields : List Meaning → Env → Got (List Field)
 all_fields [] e = Ok []
 all_fields (m ∷ ms) e = m.fields e >>= λ xs. all_fields ms e >>= λ ys. Ok (xs ++ ys)
 

@@ -9,7 +9,7 @@ use Rattle.vd_composites.specs.Subtypes.{Subtype}
 use Rattle.vd_vectors.specs.declared.logics.LogicType.{LogicType}
 use Rattle.vd_resolved.specs.declared.node.Resolved.{Resolved}
 use Rattle.vd_environments.specs.Got.{Got, senseless}
-use Rattle.vd_environments.specs.Environments.{Signals, Static, never, all_static, Argument, Env, Indicated, unknown}
+use Rattle.vd_environments.specs.Environments.{Signals, Static, never, all_static, Argument, Env, Indicated, Field, unknown}
 use Rattle.vd_environments.specs.Commands.{Command, Skip}
 use Rattle.vd_environments.specs.Functions.{Parameter}
 use Rattle.vd_environments.specs.Processes.{Process}
@@ -80,7 +80,7 @@ pub record Meaning : Type 0 where
   pub chosen : (Waveform → Command) → Command
   -- of a subtype indication, and of the elements of a record
   pub indicated : Env → Got Indicated
-  pub fields : Env → Got (List Indicated)
+  pub fields : Env → Got (List Field)
   -- of a list of identifiers or literals, and of what declares objects
   pub texts : List (List ℕ)
   pub numbers : List ℕ
@@ -145,6 +145,11 @@ abbrev pub nth : ℕ → List Meaning → Meaning
 nth n [] = no_meaning
 nth zero (m ∷ ms) = m
 nth (suc n) (m ∷ ms) = nth n ms
+
+abbrev pub last_of : List Meaning → Meaning
+last_of [] = no_meaning
+last_of (m ∷ []) = m
+last_of (m ∷ n ∷ ms) = last_of (n ∷ ms)
 
 -- the parts from a number on
 abbrev pub from : ℕ → List Meaning → List Meaning

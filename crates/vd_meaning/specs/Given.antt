@@ -54,7 +54,7 @@ resolved m n = scalars (ranged (Enumeration 9) (record { left = pos m; right = p
 -- ---- arrays of any bounds
 
 abbrev pub arrays : ScalarSubtype → Indicated → Indicated
-arrays index element = record { subtype = Arrays index None element.subtype; make = OfElements always element.make }
+arrays index element = record { subtype = Arrays index None element.subtype; make = OfElements [] always element.make }
 
 -- ---- the marks by their numbers. STD_LOGIC_VECTOR has resolved elements in both revisions: in 2019 as a subtype, in 1993 as a type of its own.
 

@@ -1,5 +1,5 @@
 -- What a node of a resolved tree means, by its kind, from the meanings of its parts; and the meanings of trees, from the leaves on.
-use Rattle.std.specs.Prelude.{ℕ, Bool, true, false, List, [], ◌∷◌, ◌++◌, map, reverse, option_to_list, Option, Some, None, Ok, if◌then◌else◌}
+use Rattle.std.specs.Prelude.{ℕ, Bool, true, false, List, [], ◌∷◌, ◌++◌, map, option_to_list, Option, Some, None, Ok, if◌then◌else◌}
 use Rattle.vd_bytes.specs.declared.places.Place.{Place}
 use Rattle.vd_forest.specs.Forest.{Forest}
 use Rattle.vd_rewriting.specs.Folding.{folded}
@@ -19,10 +19,10 @@ use Rattle.vd_meaning.specs.Operators.{function_of, marked}
 use Rattle.vd_meaning.specs.Literals.{number, integer, physical, string}
 use Rattle.vd_meaning.specs.Names.{Named, literal_known, first_piece, stepped, to_field, attributed, attribute_named, RangeOf, call_known, number_or, name_read, and_read, position_in, unless_stopped}
 use Rattle.vd_meaning.specs.Tables.{Role, ElementRole, role_of}
-use Rattle.vd_meaning.specs.Facets.{Meaning, no_meaning, nth, from, flattened, reads_of, targets_of, known_of, value_of, arguments, of_node, expression, commanding, ByChoices, ForOthers, Body}
+use Rattle.vd_meaning.specs.Facets.{Meaning, no_meaning, nth, last_of, from, flattened, reads_of, targets_of, known_of, value_of, arguments, of_node, expression, commanding, ByChoices, ForOthers, Body}
 use Rattle.vd_meaning.specs.Brackets.{choice_of, or_else, arguments_piece, qualification_piece, bracketed_value, bracketed_known}
 use Rattle.vd_meaning.specs.Statements.{truth_of, setting, driving, giving, report, assertion, time_in, any_covers, alternatives, comparison, selecting, waiting_for, values_of_range}
-use Rattle.vd_meaning.specs.Declarations.{indication, enumeration, array_type, record_type, all_fields, for_names, new_type, new_constants, new_variables, new_objects, parameters_for, function_command}
+use Rattle.vd_meaning.specs.Declarations.{indication, enumeration, array_type, record_type, all_fields, fields_named, new_type, new_constants, new_variables, new_objects, parameters_for, function_command}
 use Rattle.vd_meaning.specs.Kinds
 
 -- ---- what a node makes: the declaration that it carries, or that of the identifier in it
@@ -158,7 +158,7 @@ meaning_of (Kinds.Limits down) t n text ms = ranging n text ms (limits down (nth
 meaning_of Kinds.LimitsOfMark t n text ms =
     record (ranging n text (from 1 ms) (limits_of_mark (nth 0 ms) (nth 1 ms))) { known = λ e. both (own_bounds ((nth 0 ms).name.make e)) ((nth 1 ms).known e) }
 meaning_of Kinds.OpenIndex t n text ms = record (nth 0 ms) { is_open = true }
-meaning_of Kinds.MarkName t n text ms = record (of_node n text ms) { declaration = or_else n.declaration (nth 0 (reverse ms)).declaration }
+meaning_of Kinds.MarkName t n text ms = record (of_node n text ms) { declaration = or_else n.declaration (last_of ms).declaration }
 meaning_of Kinds.Indication t n text ms = record (of_node n text ms) { indicated = indication (nth 0 ms).declaration (nth 1 ms) }
 meaning_of Kinds.Constraint t n text ms = record (of_node n text ms) { range = (nth 0 ms).range; known = (nth 0 ms).known }
 -- types
@@ -166,7 +166,7 @@ meaning_of Kinds.Literals t n text ms = record (of_node n text ms) { indicated =
 meaning_of Kinds.ArrayDefinition t n text ms = record (of_node n text ms) { indicated = array_type (nth 0 ms) (nth 1 ms) }
 meaning_of Kinds.RecordDefinition t n text ms = record (of_node n text ms) { indicated = λ e. (nth 0 ms).fields e >>= λ is. Ok (record_type is) }
 meaning_of Kinds.RecordParts t n text ms = record (of_node n text ms) { fields = all_fields ms }
-meaning_of Kinds.RecordPart t n text ms = record (of_node n text ms) { fields = λ e. (nth 1 ms).indicated e >>= λ i. Ok (for_names (nth 0 ms).numbers i) }
+meaning_of Kinds.RecordPart t n text ms = record (of_node n text ms) { fields = λ e. (nth 1 ms).indicated e >>= λ i. Ok (fields_named (nth 0 ms).texts i) }
 -- declarations
 meaning_of Kinds.Identifiers t n text ms = record (of_node n text ms) { texts = flattened (λ m. m.texts) ms; numbers = flattened (λ m. m.numbers) ms }
 meaning_of Kinds.NewType t n text ms = commanding n ms (new_type (number_or (made n (nth 0 ms))) (nth 1 ms).indicated)

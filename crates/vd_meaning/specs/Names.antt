@@ -25,7 +25,7 @@ use Rattle.vd_operators.specs.Attributes.{array_range}
 use Rattle.vd_operators.specs.Texts.{text}
 use Rattle.vd_resolved.specs.declared.node.Resolved.{Resolved}
 use Rattle.vd_environments.specs.Got.{Got, got, senseless, is_got}
-use Rattle.vd_environments.specs.Environments.{Signals, read, Static, always, never, both, only_global, is_static, Make, OfElements, no_make, own_bounds, element_make, field_make, all_bounds, literals_of, Argument, Env, Place, further, or_senseless}
+use Rattle.vd_environments.specs.Environments.{Signals, read, Static, always, never, both, only_global, is_static, Make, sliced_make, no_make, own_bounds, element_make, field_make, all_bounds, literals_of, Argument, Env, Place, further, or_senseless}
 use Rattle.vd_meaning.specs.Tables.{Table, Role, ConstantRole, VariableRole, SignalRole, LiteralRole, FunctionRole, MarkRole, ElementRole, NoRole, role_of, same_type, followed}
 use Rattle.vd_meaning.specs.Operators.{function_of, literal_of, marked, is_local_operator}
 
@@ -337,7 +337,7 @@ to_slice range known inner =
       known = known;
       inner = inner;
       subtype = λ e s. range e >>= λ b. sliced_subtype b s;
-      make = λ e m. OfElements (known e) (element_make m);
+      make = λ e m. sliced_make (known e) m;
     }
 
 -- ---- attributes
@@ -434,6 +434,8 @@ abbrev pub conversion_known : ℕ → (Env → Static) → Env → Static
 conversion_known d known e = both (all_bounds (e.denotes d).make) (known e)
 
 -- A conversion of the name of a signal is still made of its scalar signals, which matters in associations.
-abbrev pub conversion : ℕ → Option ℕ → (Env → Got (Value Scalar)) → (Env → Static) → (Env → Got (List Signals)) → (Env → Got Signals) → Named
-conversion d mark operand known inner signals =
-    record (fresh (λ e. operand e >>= converted (e.denotes d).subtype) mark (conversion_known d known) inner) { signals = signals }
+abbrev pub conversion : ℕ → Option ℕ → (Env → Got (Value Scalar)) → (Env → Static) → (Env → Got (List Signals)) → Named
+conversion d mark operand known inner = fresh (λ e. operand e >>= converted (e.denotes d).subtype) mark (conversion_known d known) inner
+
+abbrev pub conversion_of : ℕ → Option ℕ → (Env → Got (Value Scalar)) → (Env → Static) → (Env → Got (List Signals)) → Named → Named
+conversion_of d mark operand known inner p = record (conversion d mark operand known inner) { signals = p.signals; is_whole = p.is_whole }

@@ -65,10 +65,13 @@ effect_of e (Ok sent) = record { assignments = sent; reports = []; after = Ok e 
 effect_of e (Err s) = record { assignments = []; reports = []; after = Err s }
 
 -- A signal assignment: the value, the delay, the target with its indexes; then whether the value fits, and whether the time does.
+abbrev pub sending : Named → Delay → Waveform → Env → Got (List Assignment)
+sending target mode w e =
+    w.value (target.subtype e) e >>= λ v. w.delay e >>= λ d. target.signals e >>= λ ns. target.subtype e >>= λ s.
+    got (fit s v) >>= λ x. due e d >>= λ t. Ok (assigned_to e.drivers mode t (leaves ns) (leaves x))
+
 abbrev pub driving : Named → Delay → Waveform → Command
-driving target mode w =
-    Act (λ e. effect_of e (w.value (target.subtype e) e >>= λ v. w.delay e >>= λ d. target.signals e >>= λ ns. target.subtype e >>= λ s.
-    got (fit s v) >>= λ x. due e d >>= λ t. Ok (assigned_to e.drivers mode t (leaves ns) (leaves x))))
+driving target mode w = Act (λ e. effect_of e (sending target mode w e))
 
 -- a return of a value as one of the subtype of the function's result
 abbrev pub giving : Waveform → Command

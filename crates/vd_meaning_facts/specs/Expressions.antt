@@ -79,8 +79,8 @@ around =
     (with_object v (Arrays (numbers_from 0) (Some (range 7 5)) integers.subtype) int_arrays.make (Array (range 7 5) (items_of (integer 10 ∷ integer 20 ∷ integer 30 ∷ []))) never
     (with_object n integers.subtype integers.make (integer 3) never
     (with_signals s (enumeration 9 []).subtype no_make (scalar_signal 9 0)
-    (with_signals b (bit_arrays (range 3 0)) (OfElements always no_make) (Array (range 3 0) (items_of (scalar_signal 2 1 ∷ scalar_signal 2 2 ∷ scalar_signal 2 3 ∷ scalar_signal 2 4 ∷ [])))
-    (with_subtype nibble (bit_arrays (range 3 0)) (OfElements always no_make)
+    (with_signals b (bit_arrays (range 3 0)) (OfElements [] always no_make) (Array (range 3 0) (items_of (scalar_signal 2 1 ∷ scalar_signal 2 2 ∷ scalar_signal 2 3 ∷ scalar_signal 2 4 ∷ [])))
+    (with_subtype nibble (bit_arrays (range 3 0)) (OfElements [] always no_make)
     (record start { view = record start.view { before = λ i. if i == 0 then Some (Literal 2) else None } }))))))
 
 abbrev pub value_of : Forest Resolved → Got (Value Scalar)

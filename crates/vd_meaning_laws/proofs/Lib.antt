@@ -1,2 +1,13 @@
 pub mod Agreeing
 pub mod Running
+pub mod Naming
+pub mod Stepping
+pub mod Parts
+pub mod Aggregating
+pub mod Bracketing
+pub mod Doing
+pub mod Declaring
+pub mod Facing
+pub mod Nodes
+pub mod Cases
+pub mod Elaborating

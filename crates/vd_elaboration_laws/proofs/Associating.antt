@@ -1,0 +1,304 @@
+-- Associations and instances with other numbers.
+use Rattle.std.proofs.Common.{◌≡◌, ℕ, zero, suc, Bool, true, false, List, [], ◌∷◌, ◌++◌, length, Option, Some, None, map, refl, sym, ap, ◌∙◌, subst}
+use Rattle.std.specs.Prelude.{◌+◌, ◌==◌, ◌||◌, ◌&&◌, not, bytes_eq, if◌then◌else◌, Ok, Err}
+use Rattle.std.specs.List.{AllZip, list_any}
+use Rattle.vd_bytes.specs.declared.answers.Limit.TheVariants as limit
+use Rattle.vd_kernel.specs.Correspondence.{BothOrNone}
+use Rattle.vd_kernel.specs.declared.assignments.Delay.TheVariants.{Inertial}
+use Rattle.vd_values.specs.declared.scalar.Scalar.{Scalar}
+use Rattle.vd_trees.specs.declared.paths.Scope.{Scope}
+use Rattle.vd_composites.specs.Stops.{◌>>=◌}
+use Rattle.vd_composites.specs.Composites.{Value, leaves}
+use Rattle.vd_composites.specs.Subtypes.{fit, default_of}
+use Rattle.vd_environments.specs.Got.{Got, got, senseless}
+use Rattle.vd_environments.specs.Environments.{ScalarSignal, Signals, Static, is_static, Env, Indicated}
+use Rattle.vd_environments.specs.Environments.{with_object as with_constant}
+use Rattle.vd_environments.specs.Processes.{Process}
+use Rattle.vd_meaning.specs.Facets.{Meaning, Objects, at_once}
+use Rattle.vd_meaning.specs.Statements.{driving}
+use Rattle.vd_elaboration.specs.Layouts.{Counted}
+use Rattle.vd_elaboration.specs.Building.{Made, Built, Failing, Limited, evaluated, looking, inside_instance, counted, layout_of, size_of_object, Start, plain_start, seen_in, signals_of, scalar_objects, State}
+use Rattle.vd_elaboration.specs.Facets.{View, Ports, Actual, Instance, Hierarchy, Elaborating, Unit', EntityUnit, ArchitectureUnit, PackageUnit}
+use Rattle.vd_elaboration.specs.Instances.{known_early, Port, port_indicated, tied_start, tied_starts, port_sources, ties, tied_port, open_port, open_starts, is_signal, is_implicit, implicit_name, target_named, implicit_process, added, with_implicit, with_generics, ports_of}
+use Rattle.vd_elaboration.specs.Hierarchies.{EntityText, ArchitectureText, default_put, put_value, is_named, put, put_all, put_generics, generic_actual, port_actual, implicit_subtype, if_implicit, for_names, for_implicit, count_implicit, make_implicit, implicit_scalars, port_scalars, Associating, with_signal_actual, with_value_actual, associated, all_associated, label_of, leaving, entity_elaborated, instance_of, ahead_of}
+use Rattle.vd_meaning_laws.specs.Agreement.{Link, IsApart, through, Agree, number_in}
+use Rattle.vd_meaning_laws.specs.Renumbering.{AlikeMeaning, AlikeProcess, objects_in, default_in, name_in, waveform_in}
+use Rattle.vd_meaning_laws.proofs.Doing.{driving_alike}
+use Rattle.vd_elaboration_laws.specs.Agreement.{ports_in, view_under, AlikeActual, AlikeInstance, AlikeMade, AlikeState, AlikeBuilt, AlikeStates, AlikeHierarchy, AlikeElaborating}
+use Rattle.vd_elaboration_laws.proofs.Built.{built_then, evaluated_then, counted_alike, looking_alike, more_signals, signals_same, object_alike, process_alike}
+use Rattle.vd_elaboration_laws.proofs.Interfaces.{actual_alike, value_agreed, constant_agrees, indicated_same, port_in, SamePorts, generics_alike, ports_alike}
+
+module _ (l : Link) (numbers : IsApart l) where
+  abbrev AlikeOption : Option Actual → Option Actual → Type 0
+  AlikeOption x y = BothOrNone (AlikeActual l) x y
+
+  -- ---- ports
+
+  starts_same : (m m' : Made) → m'.signals ≡ m.signals → (p : Port) (ns : List ScalarSignal) → tied_starts m' p.modes p.initial ns ≡ tied_starts m p.modes p.initial ns
+  starts_same m m' h p ns = λ i. tied_starts (record m { signals = h i }) p.modes p.initial ns
+
+  sources_same : (m m' : Made) → m'.signals ≡ m.signals → (p : Port) (ns : List ScalarSignal)
+      → port_sources (length m'.signals) p.modes ns ≡ port_sources (length m.signals) p.modes ns
+  sources_same m m' h p ns = λ i. port_sources (length (h i)) p.modes ns
+
+  tied_alike : (inner : Scope) (p : Port) (ns : List ScalarSignal) (s t : State) → AlikeState l s t → AlikeState l (tied_port inner p ns s) (tied_port inner (port_in l numbers p) ns t)
+  tied_alike inner p ns s t h =
+      let o = subst (λ x. AlikeState l (Rattle.vd_elaboration.specs.Building.with_object inner p.number p.name p.indicated (tied_starts s.made p.modes p.initial ns) s) (Rattle.vd_elaboration.specs.Building.with_object inner (l.number p.number) p.name p.indicated x t))
+          (sym (starts_same s.made t.made h.made.signals p ns)) (object_alike l numbers inner p.number p.name p.indicated (tied_starts s.made p.modes p.initial ns) s t h) in
+      record {
+        env = o.env;
+        made = record {
+          signals = o.made.signals; counted = o.made.counted;
+          sources = λ i. o.made.sources i ++ sources_same s.made t.made h.made.signals p ns i;
+          driven = o.made.driven; processes = o.made.processes;
+        };
+      }
+
+  open_alike : (inner : Scope) (p : Port) (xs : List Scalar) (s t : State) → AlikeState l s t → AlikeState l (open_port inner p xs s) (open_port inner (port_in l numbers p) xs t)
+  open_alike inner p xs s t h = object_alike l numbers inner p.number p.name p.indicated (open_starts p.modes xs) s t h
+
+  -- ---- actuals
+
+  pub signal_same : (e e' : Env) → Agree l e e' → (a b : Actual) → AlikeActual l a b → is_signal e' b ≡ is_signal e a
+  signal_same e e' g a b h = (λ i. (h.meaning.name i).is_whole e') ∙ ap a.meaning.name.is_whole g.same
+
+  static_same : (e e' : Env) → Agree l e e' → (a b : Actual) → AlikeActual l a b → is_static (b.meaning.known e') ≡ is_static (a.meaning.known e)
+  static_same e e' g a b h = (λ i. is_static (h.meaning.known i e')) ∙ (λ i. is_static (a.meaning.known (g.same i)))
+
+  pub implicit_same : (e e' : Env) → Agree l e e' → (x y : Option Actual) → AlikeOption x y → is_implicit e' y ≡ is_implicit e x
+  implicit_same e e' g None None h = refl
+  implicit_same e e' g (Some a) (Some b) h = λ i. not (signal_same e e' g a b h i) && not (static_same e e' g a b h i)
+  implicit_same e e' g _ _ h = absurd h
+
+  signals_of_actual : (e e' : Env) → Agree l e e' → (p : Port) (a b : Actual) → AlikeActual l a b
+      → (b.meaning.name.signals e' >>= λ signals. ties (port_in l numbers p) (b.meaning.name.subtype e') signals >>= λ x. Ok signals)
+      ≡ (a.meaning.name.signals e >>= λ signals. ties p (a.meaning.name.subtype e) signals >>= λ x. Ok signals)
+  signals_of_actual e e' g p a b h =
+      (λ i. (h.meaning.name i).signals e' >>= λ signals. ties p ((h.meaning.name i).subtype e') signals >>= λ x. Ok signals)
+      ∙ (λ i. a.meaning.name.signals (g.same i) >>= λ signals. ties p (a.meaning.name.subtype (g.same i)) signals >>= λ x. Ok signals)
+
+  signal_actual : (outer inner : Scope) (e e' : Env) → Agree l e e' → (p : Port) (a b : Actual) → AlikeActual l a b → (s t : State) → AlikeState l s t
+      → AlikeStates l (with_signal_actual outer inner e p a s) (with_signal_actual outer inner e' (port_in l numbers p) b t)
+  signal_actual outer inner e e' g p a b h s t k =
+      evaluated_then (AlikeState l) outer _ _ _ _ (signals_of_actual e e' g p a b h) (λ signals. tied_alike inner p (leaves signals) s t k)
+
+  value_actual : (outer inner : Scope) (e e' : Env) → Agree l e e' → (p : Port) (a b : Actual) → AlikeActual l a b → (s t : State) → AlikeState l s t
+      → AlikeStates l (with_value_actual outer inner e p a s) (with_value_actual outer inner e' (port_in l numbers p) b t)
+  value_actual outer inner e e' g p a b h s t k =
+      evaluated_then (AlikeState l) outer _ _ _ _ (λ i. value_agreed l numbers a.meaning b.meaning h.meaning (Ok p.indicated.subtype) e e' g i >>= λ v. got (fit p.indicated.subtype v))
+      (λ v. open_alike inner p (leaves v) s t k)
+
+  pub record AlikeAssociating (x y : Associating) : Type 0 where
+    pub state : AlikeState l x.state y.state
+    pub next : y.next ≡ x.next
+
+  if_alike : (b c : Bool) (x y x' y' : Built Associating) → c ≡ b → AlikeBuilt AlikeAssociating x x' → AlikeBuilt AlikeAssociating y y' → AlikeBuilt AlikeAssociating (if b then x else y) (if c then x' else y')
+  if_alike true c x y x' y' e h k = subst (λ c. AlikeBuilt AlikeAssociating x (if c then x' else y')) (sym e) h
+  if_alike false c x y x' y' e h k = subst (λ c. AlikeBuilt AlikeAssociating y (if c then x' else y')) (sym e) k
+
+  put_back : (n n' : ℕ) → n' ≡ n → (x y : Built State) → AlikeStates l x y
+      → AlikeBuilt AlikeAssociating (x >>= λ s. Ok (record { state = s; next = n })) (y >>= λ s. Ok (record { state = s; next = n' }))
+  put_back n n' e x y h = built_then (AlikeState l) AlikeAssociating x y _ _ h (λ s t k. record { state = k; next = e })
+
+  scalars_same : (p : Port) (m m' : Made) → m'.signals ≡ m.signals → port_scalars (port_in l numbers p) m' ≡ port_scalars p m
+  scalars_same p m m' h = λ i. leaves (signals_same l numbers p.indicated m m' h (map plain_start p.initial) i)
+
+  one_alike : (outer inner : Scope) (e e' : Env) → Agree l e e' → (p : Port) (x y : Option Actual) → AlikeOption x y → (s t : Associating) → AlikeAssociating s t
+      → AlikeBuilt AlikeAssociating (associated outer inner e p x s) (associated outer inner e' (port_in l numbers p) y t)
+  one_alike outer inner e e' g p None None h s t k = record { state = open_alike inner p p.initial s.state t.state k.state; next = k.next }
+  one_alike outer inner e e' g p (Some a) (Some b) h s t k =
+      if_alike (is_signal e a) (is_signal e' b) _ _ _ _ (signal_same e e' g a b h)
+      (put_back s.next t.next k.next _ _ (signal_actual outer inner e e' g p a b h s.state t.state k.state))
+      (if_alike (is_implicit e (Some a)) (is_implicit e' (Some b)) _ _ _ _ (implicit_same e e' g (Some a) (Some b) h)
+      (record {
+        state = subst (λ ns. AlikeState l (tied_port inner p (implicit_scalars s.next (port_scalars p s.state.made)) s.state) (tied_port inner (port_in l numbers p) ns t.state))
+            (λ i. implicit_scalars (sym k.next i) (sym (scalars_same p s.state.made t.state.made k.state.made.signals) i))
+            (tied_alike inner p (implicit_scalars s.next (port_scalars p s.state.made)) s.state t.state k.state);
+        next = λ i. k.next i + length p.initial;
+      })
+      (put_back s.next t.next k.next _ _ (value_actual outer inner e e' g p a b h s.state t.state k.state)))
+  one_alike outer inner e e' g p _ _ h s t k = absurd h
+
+  pub all_alike : (outer inner : Scope) (e e' : Env) → Agree l e e' → (x y : Instance) → AlikeInstance l x y → (k : ℕ) (ps : List Port) (s t : Associating) → AlikeAssociating s t
+      → AlikeBuilt AlikeAssociating (all_associated outer inner e x k ps s) (all_associated outer inner e' y k (map (port_in l numbers) ps) t)
+  all_alike outer inner e e' g x y h k [] s t j = j
+  all_alike outer inner e e' g x y h k (p ∷ ps) s t j =
+      built_then AlikeAssociating AlikeAssociating (associated outer inner (looking s.state.made e) p (port_actual x k p.number) s) _ _ _
+      (one_alike outer inner _ _ (looking_alike l numbers s.state.made t.state.made e e' j.state.made.signals g) p (port_actual x k p.number) (port_actual y k (l.number p.number)) (actual_alike l numbers k p.number x.ports y.ports h.ports) s t j)
+      (all_alike outer inner e e' g x y h (suc k) ps)
+
+  -- ---- implicit signals
+
+  named_same : (d : ℕ) (ns : List ℕ) → is_named (l.number d) (map l.number ns) ≡ is_named d ns
+  named_same d [] = refl
+  named_same d (n ∷ ns) = λ i. numbers.same n d i || named_same d ns i
+
+  default_put_same : (x : Option (Got Rattle.vd_composites.specs.Subtypes.Subtype → Env → Got (Value Scalar))) (f f' : Env) → Agree l f f' → (o : Objects)
+      → default_put (default_in l x) f' (objects_in l o) ≡ default_put x f o
+  default_put_same None f f' b o = refl
+  default_put_same (Some x) f f' b o = λ k. o.indicated (b.same k) >>= λ i. x (Ok i.subtype) (b.same k)
+
+  put_value_same : (e e' f f' : Env) → Agree l e e' → Agree l f f' → (o : Objects) (x y : Option Actual) → AlikeOption x y → put_value e' f' (objects_in l o) y ≡ put_value e f o x
+  put_value_same e e' f f' g b o (Some x) (Some y) h = λ k. o.indicated (b.same k) >>= λ i. value_agreed l numbers x.meaning y.meaning h.meaning (Ok i.subtype) e e' g k
+  put_value_same e e' f f' g b o None None h = default_put_same o.default f f' b o
+  put_value_same e e' f f' g b o _ _ h = absurd h
+
+  -- environments that agree, or the same stop
+  abbrev AgreeGot : Got Env → Got Env → Type 0
+  AgreeGot x y = Rattle.vd_meaning_laws.specs.Agreement.AgreeAfter l x y
+
+  got_then : {A : Type 0} (g g' : Got A) (f f' : A → Got Env) → g' ≡ g → ((x : A) → AgreeGot (f x) (f' x)) → AgreeGot (g >>= f) (g' >>= f')
+  got_then (Ok x) g' f f' e same = subst (λ r. AgreeGot (f x) (r >>= f')) (sym e) (same x)
+  got_then (Err s) g' f f' e same = subst (λ r. AgreeGot (Err s) (r >>= f')) (sym e) refl
+
+  agree_then : (g g' : Got Env) (f f' : Env → Got Env) → AgreeGot g g' → ((e e' : Env) → Agree l e e' → AgreeGot (f e) (f' e')) → AgreeGot (g >>= f) (g' >>= f')
+  agree_then (Ok e) (Ok e') f f' h same = same e e' h
+  agree_then (Err s) (Err t) f f' h same = h
+  agree_then (Ok e) (Err t) f f' h same = absurd h
+  agree_then (Err s) (Ok e') f f' h same = absurd h
+
+  if_agree : (b c : Bool) (x y x' y' : Got Env) → c ≡ b → AgreeGot x x' → AgreeGot y y' → AgreeGot (if b then x else y) (if c then x' else y')
+  if_agree true c x y x' y' e h k = subst (λ c. AgreeGot x (if c then x' else y')) (sym e) h
+  if_agree false c x y x' y' e h k = subst (λ c. AgreeGot y (if c then x' else y')) (sym e) k
+
+  module _ (e e' : Env) (g : Agree l e e') (named : List ℕ) (actual actual' : ℕ → ℕ → Option Actual) (same : (k d : ℕ) → AlikeOption (actual k d) (actual' k (l.number d))) where
+    put_alike : (d : ℕ) (o : Objects) (x y : Option Actual) → AlikeOption x y → (f f' : Env) → Agree l f f'
+        → AgreeGot (put e named d o x f) (put e' (map l.number named) (l.number d) (objects_in l o) y f')
+    put_alike d o x y h f f' b =
+        if_agree (is_named d named) (is_named (l.number d) (map l.number named)) _ _ _ _ (named_same d named)
+        (got_then (put_value e f o x) (put_value e' f' (objects_in l o) y) _ _ (put_value_same e e' f f' g b o x y h) (λ v.
+        got_then (o.indicated f) (o.indicated (through l f')) _ _ (λ k. o.indicated (b.same k)) (λ i. constant_agrees l numbers d i v f f' b)))
+        b
+
+    put_all_alike : (o : Objects) (k : ℕ) (ds : List ℕ) (f f' : Env) → Agree l f f'
+        → AgreeGot (put_all e named actual o k ds f) (put_all e' (map l.number named) actual' (objects_in l o) k (map l.number ds) f')
+    put_all_alike o k [] f f' b = b
+    put_all_alike o k (d ∷ ds) f f' b =
+        agree_then _ _ _ _ (put_alike d o (actual k d) (actual' k (l.number d)) (same k d) f f' b) (λ x y c. put_all_alike o (suc k) ds x y c)
+
+    mapped_length : (ds : List ℕ) → length (map l.number ds) ≡ length ds
+    mapped_length [] = refl
+    mapped_length (d ∷ ds) = ap suc (mapped_length ds)
+
+    put_generics_alike : (k : ℕ) (os : List Objects) (f f' : Env) → Agree l f f'
+        → AgreeGot (put_generics e named actual k os f) (put_generics e' (map l.number named) actual' k (map (objects_in l) os) f')
+    put_generics_alike k [] f f' b = b
+    put_generics_alike k (o ∷ os) f f' b =
+        agree_then _ _ _ _ (put_all_alike o k o.numbers f f' b) (λ x y c.
+        subst (λ n. AgreeGot (put_generics e named actual (k + length o.numbers) os x) (put_generics e' (map l.number named) actual' (k + n) (map (objects_in l) os) y)) (sym (mapped_length o.numbers))
+        (put_generics_alike (k + length o.numbers) os x y c))
+
+  abbrev pub entity_under : EntityText → EntityText
+  entity_under entity = record { generics = map (objects_in l) entity.generics; ports = map (ports_in l) entity.ports }
+
+  indicated_then : (g g' : Got Env) → AgreeGot g g' → (f f' : Env → Got Indicated) → ((e e' : Env) → Agree l e e' → f' e' ≡ f e) → (g' >>= f') ≡ (g >>= f)
+  indicated_then (Ok e) (Ok e') h f f' same = same e e' h
+  indicated_then (Err s) (Err t) h f f' same = ap (λ s. Err s) h
+  indicated_then (Ok e) (Err t) h f f' same = absurd h
+  indicated_then (Err s) (Ok e') h f f' same = absurd h
+
+  subtype_same : (views : List View) (entity : EntityText) (x y : Instance) → AlikeInstance l x y → (p : Ports) (e e' : Env) → Agree l e e'
+      → implicit_subtype (map (view_under l) views) (entity_under entity) y (ports_in l p) e' ≡ implicit_subtype views entity x p e
+  subtype_same views entity x y h p e e' g =
+      indicated_then _ _ (put_generics_alike e e' g p.named (generic_actual x) (generic_actual y) (λ k d. actual_alike l numbers k d x.generics y.generics h.generics) 0 entity.generics e e' g)
+      (port_indicated views p) (port_indicated (map (view_under l) views) (ports_in l p)) (indicated_same l numbers views p)
+
+  -- ---- what is done for each port of an instance, by two calls that are alike
+
+  if_states : (b c : Bool) (x y x' y' : Built State) → c ≡ b → AlikeStates l x x' → AlikeStates l y y' → AlikeStates l (if b then x else y) (if c then x' else y')
+  if_states true c x y x' y' e h k = subst (λ c. AlikeStates l x (if c then x' else y')) (sym e) h
+  if_states false c x y x' y' e h k = subst (λ c. AlikeStates l y (if c then x' else y')) (sym e) k
+
+  module _ (go go' : Ports → List ℕ → Actual → State → Built State)
+      (steps : (p : Ports) (name : List ℕ) (a b : Actual) → AlikeActual l a b → (s t : State) → AlikeState l s t → AlikeStates l (go p name a s) (go' (ports_in l p) name b t))
+      (x y : Instance) (h : AlikeInstance l x y) where
+    one_implicit : (p : Ports) (name : List ℕ) (a b : Option Actual) → AlikeOption a b → (s t : State) → AlikeState l s t → AlikeStates l (if_implicit go p name a s) (if_implicit go' (ports_in l p) name b t)
+    one_implicit p name None None k s t j = j
+    one_implicit p name (Some a) (Some b) k s t j =
+        if_states (is_implicit s.env (Some a)) (is_implicit t.env (Some b)) _ _ _ _ (implicit_same s.env t.env j.env (Some a) (Some b) k) (steps p name a b k s t j) j
+    one_implicit p name _ _ k s t j = absurd k
+
+    names_alike : (p : Ports) (k : ℕ) (ds : List ℕ) (names : List (List ℕ)) (s t : State) → AlikeState l s t
+        → AlikeStates l (for_names go x p k ds names s) (for_names go' y (ports_in l p) k (map l.number ds) names t)
+    names_alike p k [] [] s t j = j
+    names_alike p k [] (name ∷ names) s t j = j
+    names_alike p k (d ∷ ds) [] s t j = j
+    names_alike p k (d ∷ ds) (name ∷ names) s t j =
+        built_then (AlikeState l) (AlikeState l) _ _ _ _ (one_implicit p name (port_actual x k d) (port_actual y k (l.number d)) (actual_alike l numbers k d x.ports y.ports h.ports) s t j) (names_alike p (suc k) ds names)
+
+    mapped_count : (ds : List ℕ) → length (map l.number ds) ≡ length ds
+    mapped_count [] = refl
+    mapped_count (d ∷ ds) = ap suc (mapped_count ds)
+
+    pub implicit_alike : (k : ℕ) (ps : List Ports) (s t : State) → AlikeState l s t → AlikeStates l (for_implicit go x k ps s) (for_implicit go' y k (map (ports_in l) ps) t)
+    implicit_alike k [] s t j = j
+    implicit_alike k (p ∷ ps) s t j =
+        built_then (AlikeState l) (AlikeState l) _ _ _ _ (names_alike p k p.objects.numbers p.names s t j) (λ u v i.
+        subst (λ n. AlikeStates l (for_implicit go x (k + length p.objects.numbers) ps u) (for_implicit go' y (k + n) (map (ports_in l) ps) v)) (sym (mapped_count p.objects.numbers))
+        (implicit_alike (k + length p.objects.numbers) ps u v i))
+
+  -- their processes
+
+  process_same : (i : Indicated) (signals : Signals) (m n : Meaning) → AlikeMeaning l m n → AlikeProcess l (implicit_process i signals m) (implicit_process i signals n)
+  process_same i signals m n h =
+      record {
+        declarations = tt;
+        statements = subst (λ v. Rattle.vd_meaning_laws.specs.Agreement.AlikeCommands l (driving (target_named i signals) Inertial (at_once m.value)) (driving (target_named i signals) Inertial (at_once v))) (sym h.value)
+            (driving_alike l numbers (target_named i signals) Inertial (at_once m.value));
+        sensitivity = λ k. Some (h.reads k);
+        targets = refl;
+      }
+
+  added_alike : (scope : Scope) (name : List ℕ) (i : Indicated) (starts : List Start) (s t : State) → AlikeState l s t → AlikeState l (added scope name i starts s) (added scope name i starts t)
+  added_alike scope name i starts s t h =
+      let made = more_signals l numbers s.made t.made h.made (scalar_objects scope name (leaves (layout_of i)) starts) in
+      record { env = looking_alike l numbers (added scope name i starts s).made (added scope name i starts t).made s.env t.env made.signals h.env; made = made }
+
+  with_implicit_alike : (scope : Scope) (name : List ℕ) (i : Indicated) (m n : Meaning) → AlikeMeaning l m n → (s t : State) → AlikeState l s t
+      → AlikeStates l (with_implicit scope name i m s) (with_implicit scope name i n t)
+  with_implicit_alike scope name i m n h s t k =
+      let starts = map plain_start (leaves (default_of i.subtype)) in
+      subst (λ signals. AlikeStates l (with_implicit scope name i m s) (Rattle.vd_elaboration.specs.Building.with_process scope (implicit_process i signals n) (added scope name i starts t)))
+      (sym (signals_same l numbers i s.made t.made k.made.signals starts))
+      (process_alike l numbers scope (implicit_process i (signals_of i s.made starts) m) (implicit_process i (signals_of i s.made starts) n) (process_same i (signals_of i s.made starts) m n h) _ _ (added_alike scope name i starts s t k))
+
+  -- ---- instances
+
+  module _ (views : List View) (scope : Scope) (entity : EntityText) (x y : Instance) (h : AlikeInstance l x y) where
+    pub count_alike : (p : Ports) (name : List ℕ) (a b : Actual) → AlikeActual l a b → (s t : State) → AlikeState l s t
+        → AlikeStates l (count_implicit views scope entity x p name a s) (count_implicit (map (view_under l) views) scope (entity_under entity) y (ports_in l p) name b t)
+    count_alike p name a b k s t j =
+        evaluated_then (AlikeState l) scope _ _ _ _ (subtype_same views entity x y h p s.env t.env j.env) (λ i.
+        built_then (AlikeMade l) (AlikeState l) (counted (size_of_object i) s.made) (counted (size_of_object i) t.made) _ _ (counted_alike l numbers (size_of_object i) s.made t.made j.made) (λ m n g. record { env = j.env; made = g }))
+
+    pub make_alike : (p : Ports) (name : List ℕ) (a b : Actual) → AlikeActual l a b → (s t : State) → AlikeState l s t
+        → AlikeStates l (make_implicit views scope entity x p name a s) (make_implicit (map (view_under l) views) scope (entity_under entity) y (ports_in l p) name b t)
+    make_alike p name a b k s t j =
+        evaluated_then (AlikeState l) scope _ _ _ _ (subtype_same views entity x y h p s.env t.env j.env) (λ i.
+        subst (λ label. AlikeStates l (with_implicit scope (implicit_name x.label name) i a.meaning s) (with_implicit scope (implicit_name label name) i b.meaning t)) (sym h.label)
+        (with_implicit_alike scope (implicit_name x.label name) i a.meaning b.meaning k.meaning s t j))
+
+  leaving_alike : (e e' : Env) → Agree l e e' → (s t : State) → AlikeState l s t → AlikeState l (leaving e s) (leaving e' t)
+  leaving_alike e e' g s t h = record { env = looking_alike l numbers s.made t.made e e' h.made.signals g; made = h.made }
+
+  pub left_alike : (e e' : Env) → Agree l e e' → (x y : Built State) → AlikeStates l x y → AlikeStates l (x >>= λ u. Ok (leaving e u)) (y >>= λ u. Ok (leaving e' u))
+  left_alike e e' g x y h = built_then (AlikeState l) (AlikeState l) x y _ _ h (λ u v k. leaving_alike e e' g u v k)
+
+  pub record AlikeArchitecture (a b : ArchitectureText) : Type 0 where
+    pub name : b.name ≡ a.name
+    pub region : AlikeElaborating l a.region b.region
+
+  module _ (views : List View) (h h' : Hierarchy) (hs : AlikeHierarchy l h h') (outer inner : Scope) (entity : EntityText) (a b : ArchitectureText) (as' : AlikeArchitecture a b) (x y : Instance) (xs : AlikeInstance l x y) where
+    pub entity_alike : (n n' : ℕ) → n' ≡ n → (s t : State) → AlikeState l s t
+        → AlikeStates l (entity_elaborated views h outer inner entity a x n s) (entity_elaborated (map (view_under l) views) h' outer inner (entity_under entity) b y n' t)
+    entity_alike n n' e s t k =
+        built_then (Agree l) (AlikeState l) _ _ _ _ (generics_alike l numbers outer inner s.env t.env k.env (generic_actual x) (generic_actual y) (λ k d. actual_alike l numbers k d x.generics y.generics xs.generics) 0 entity.generics s.env t.env k.env) (λ f f' g.
+        built_then (SamePorts l numbers) (AlikeState l) _ _ _ _ (ports_alike l numbers views inner f f' g entity.ports s.made t.made k.made) (λ ps qs j.
+        built_then AlikeAssociating (AlikeState l)
+        (all_associated outer inner s.env x 0 ps.it (record { state = record { env = f; made = record s.made { counted = ps.next } }; next = n })) (all_associated outer inner t.env y 0 qs.it (record { state = record { env = f'; made = record t.made { counted = qs.next } }; next = n' })) _ _
+        (subst (λ q. AlikeBuilt AlikeAssociating (all_associated outer inner s.env x 0 ps.it (record { state = record { env = f; made = record s.made { counted = ps.next } }; next = n })) (all_associated outer inner t.env y 0 q (record { state = record { env = f'; made = record t.made { counted = qs.next } }; next = n' }))) (sym j.0)
+        (all_alike outer inner s.env t.env k.env x y xs 0 ps.it _ _ (record {
+          state = record { env = g; made = record { signals = k.made.signals; counted = j.1; sources = k.made.sources; driven = k.made.driven; processes = k.made.processes } };
+          next = e;
+        })))
+        (λ u v i. left_alike s.env t.env k.env (a.region h inner u.state) (b.region h' inner v.state) (as'.region h h' hs inner u.state v.state i.state))))

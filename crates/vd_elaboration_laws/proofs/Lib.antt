@@ -1,0 +1,6 @@
+pub mod Built
+pub mod Interfaces
+pub mod Associating
+pub mod Nesting
+pub mod Facing
+pub mod Cases

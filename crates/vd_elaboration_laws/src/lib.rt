@@ -1,0 +1,2 @@
+//! Laws of elaboration, which passes cite.
+#![tactic(auto)]
