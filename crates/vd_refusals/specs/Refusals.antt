@@ -1,7 +1,7 @@
 -- The first name of an expression that is refused by what is visible alone, in the order of the text: 303, where nothing visible has the
 -- name, and 307, where what has it can't stand there. A name is refused at its first token, but for an attribute that its prefix can't
 -- have, which is refused behind the apostrophe. (IEEE 1076, visibility; names)
-use Rattle.std.specs.Prelude.{ℕ, ◌+◌, min, Bool, true, false, List, [], ◌∷◌, Option, Some, None, is_some, if◌then◌else◌}
+use Rattle.std.specs.Prelude.{ℕ, Bool, true, false, List, [], ◌∷◌, Option, Some, None, is_some, if◌then◌else◌}
 use Rattle.vd_bytes.specs.declared.places.Place.{Place}
 use Rattle.vd_bytes.specs.declared.answers.Refused.{Refused}
 use Rattle.vd_declarations.specs.declared.classes.Class.{Class}
@@ -91,15 +91,11 @@ abbrev pub refused_unless : Bool → Place → Option Refused
 refused_unless true place = None
 refused_unless false place = Some (record { place = place; rule = 307 })
 
--- The attribute `range` has the place of its apostrophe, behind which its word stands.
-abbrev pub behind_apostrophe : Place → Place
-behind_apostrophe place = record place { column = min (place.column + 1) 4294967295 }
-
 -- an attribute stands behind the apostrophe
 abbrev pub refused_piece : Kind → Seen → Sight → Place → Forest Form → Option Refused
 refused_piece kind.Attribute p s place parts =
     refused_unless (can_have p s (attribute_named (text_of parts))) (first_place_or (place_of parts) place)
-refused_piece kind.RangeAttribute p s place parts = refused_unless (can_have p s attribute.ReverseRange) (behind_apostrophe place)
+refused_piece kind.RangeAttribute p s place parts = refused_unless (can_have p s attribute.ReverseRange) place
 refused_piece _ p s place parts = None
 
 abbrev pub is_unit : Class → Bool

@@ -4,7 +4,7 @@ ghost use Rattle.std.specs.Prelude.{◌≡◌, IfOk};
 ghost use Rattle.vd_sights.specs.Kinds.{kind_of as kind_at};
 ghost use Rattle.vd_sights.specs.Sights.{sight_from, class_of};
 ghost use Rattle.vd_refusals.specs.Seen.{scalar_has as has_scalar, array_has as has_array, value_has, is_some_attribute as some_attribute, can_have};
-ghost use Rattle.vd_refusals.specs.Refusals.{refuses_mark as mark_refused, refuses_value as value_refused, refuses_others as others_refused, broken_by as rule_broken, refused_at as refusal_at, choice_need, need_at as need_of_place, refused_name, refused_expression, first_place_or as place_or, behind_apostrophe as place_behind, refused_unless as unless, refused_piece, is_unit as unit_class, refused_unit_among, refused_node};
+ghost use Rattle.vd_refusals.specs.Refusals.{refuses_mark as mark_refused, refuses_value as value_refused, refuses_others as others_refused, broken_by as rule_broken, refused_at as refusal_at, choice_need, need_at as need_of_place, refused_name, refused_expression, first_place_or as place_or, refused_unless as unless, refused_piece, is_unit as unit_class, refused_unit_among, refused_node};
 
 use crate::pieces::name_seen;
 use crate::seen::Seen;
@@ -196,16 +196,6 @@ fn first_place_or(first: Option<Place>, place: Place) -> Place
     }
 }
 
-/// The place behind an apostrophe.
-fn behind_apostrophe(place: Place) -> Place
-    ensures { result ≡ place_behind place }
-{
-    Place {
-        column: place.column.saturating_add(1),
-        ..place
-    }
-}
-
 /// What can't stand at a place.
 fn refused_unless(stands: bool, place: Place) -> Option<Refused>
     ensures { result ≡ unless stands place }
@@ -229,7 +219,7 @@ fn refused_piece(at: &Surroundings<'_>, seen: &Seen, node: &Opened<'_, Form>) ->
         }
         Kind::RangeAttribute => {
             let stands = can_have(at, seen, Attribute::ReverseRange);
-            refused_unless(stands, behind_apostrophe(node.place))
+            refused_unless(stands, node.place)
         }
         _ => None,
     }
