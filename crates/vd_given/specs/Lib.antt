@@ -3,4 +3,5 @@ pub mod Lines
 pub mod Table
 pub mod Seen
 pub mod Operators
+pub mod Clashes
 pub mod Given
