@@ -5,3 +5,4 @@ pub mod Seen
 pub mod Operators
 pub mod Clashes
 pub mod Given
+pub mod GivenClashes

@@ -6,6 +6,7 @@ ghost use Rattle.vd_regions.specs.Homographs.{homograph};
 ghost use Rattle.vd_given.specs.Entries.{declared, unit, with_entry, with_values};
 ghost use Rattle.vd_given.specs.Seen.{seen_operator};
 ghost use Rattle.vd_given.specs.Operators.{with_left, with_pair, pair_of, with_pair_of, pair_or, with_operands, operands_of, pair_at, result_type, right_operand, operator_of, with_group, with_groups, with_operators, is_discrete, groups_of_arrays, with_operators_of};
+ghost use Rattle.vd_given.specs.GivenClashes.{clash_of_values};
 ghost use Rattle.vd_given.specs.Clashes.{clash_of_pair, clash_of_pair_of, clash_of_operands, clash_of_group, clash_of_groups, clash_of_operators, clash_of_operators_of};
 ghost use Rattle.vd_declarations.specs.declared.classes.Class.TheVariants as class;
 ghost use Rattle.std.specs.List.{All};
@@ -77,7 +78,9 @@ pub(crate) fn enter_with(
     mark: Option<TypeId>,
     operand: DeclId,
 ) -> Result<DeclId, EnterEnd>
-    ensures { OnOk result (regions.new ≡ with_entry regions.old region (declared class name.now mark (operand ∷ []))) }
+    ensures entered { OnOk result (regions.new ≡ with_entry regions.old region (declared class name.now mark (operand ∷ []))) }
+    ensures free { OnOk result (homograph regions.old region (declared class name.now mark (operand ∷ [])) ≡ None) }
+    ensures taken { (id : ℕ) → result ≡ Err (EnterEnd.Homograph id) → homograph regions.old region (declared class name.now mark (operand ∷ [])) ≡ Some id }
 {
     let operands = one_of(alloc, operand)?;
     let declared = declaration(alloc, class, name, mark, operands)?;
@@ -102,7 +105,9 @@ pub(crate) fn enter_unit(
     name: &str,
     inside: u32,
 ) -> Result<(), EnterEnd>
-    ensures { OnOk result (regions.new ≡ with_entry regions.old region (unit class name.now inside)) }
+    ensures entered { OnOk result (regions.new ≡ with_entry regions.old region (unit class name.now inside)) }
+    ensures free { OnOk result (homograph regions.old region (unit class name.now inside) ≡ None) }
+    ensures taken { (id : ℕ) → result ≡ Err (EnterEnd.Homograph id) → homograph regions.old region (unit class name.now inside) ≡ Some id }
 {
     let mut declared = declaration(alloc, class, name, None, Vec::new(alloc))?;
     declared.inside = Some(RegionId::of(inside));
@@ -119,7 +124,9 @@ pub(crate) fn enter_values(
     own: u32,
     names: &[&str],
 ) -> Result<(), EnterEnd>
-    ensures { OnOk result (regions.new ≡ with_values regions.old region class.now own (map (λ n. n.now) names.now)) }
+    ensures entered { OnOk result (regions.new ≡ with_values regions.old region class.now own (map (λ n. n.now) names.now)) }
+    ensures free { OnOk result (clash_of_values regions.old region class.now own (map (λ n. n.now) names.now) ≡ None) }
+    ensures taken { (id : ℕ) → result ≡ Err (EnterEnd.Homograph id) → clash_of_values regions.old region class.now own (map (λ n. n.now) names.now) ≡ Some id }
 {
     for name in names {
         let mark = Some(TypeId::of(own));
