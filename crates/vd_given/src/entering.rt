@@ -1,10 +1,13 @@
 //! Entering what no file declares.
 
-ghost use Rattle.std.specs.Prelude.{◌≡◌, ◌<◌, ◌∷◌, [], OnOk, IfOk, Some, None, length, map};
+ghost use Rattle.std.specs.Prelude.{◌≡◌, ℕ, ◌<◌, ◌∷◌, [], OnOk, IfOk, Err, Some, None, length, map};
 ghost use Rattle.vd_regions.specs.Scopes.{Scopes, declaration_at};
+ghost use Rattle.vd_regions.specs.Homographs.{homograph};
 ghost use Rattle.vd_given.specs.Entries.{declared, unit, with_entry, with_values};
 ghost use Rattle.vd_given.specs.Seen.{seen_operator};
 ghost use Rattle.vd_given.specs.Operators.{with_left, with_pair, pair_of, with_pair_of, pair_or, with_operands, operands_of, pair_at, result_type, right_operand, operator_of, with_group, with_groups, with_operators, is_discrete, groups_of_arrays, with_operators_of};
+ghost use Rattle.vd_given.specs.GivenClashes.{clash_of_values};
+ghost use Rattle.vd_given.specs.Clashes.{clash_of_pair, clash_of_pair_of, clash_of_operands, clash_of_group, clash_of_groups, clash_of_operators, clash_of_operators_of};
 ghost use Rattle.vd_declarations.specs.declared.classes.Class.TheVariants as class;
 ghost use Rattle.std.specs.List.{All};
 ghost use Rattle.vd_declarations.specs.Classes.{types_of};
@@ -57,7 +60,9 @@ pub(crate) fn enter_plain(
     name: &str,
     mark: Option<TypeId>,
 ) -> Result<DeclId, EnterEnd>
-    ensures { IfOk result (λ id. (id ≡ length regions.old.entered) × (regions.new ≡ with_entry regions.old region (declared class name.now mark []))) }
+    ensures entered { IfOk result (λ id. (id ≡ length regions.old.entered) × (regions.new ≡ with_entry regions.old region (declared class name.now mark []))) }
+    ensures free { OnOk result (homograph regions.old region (declared class name.now mark []) ≡ None) }
+    ensures taken { (id : ℕ) → result ≡ Err (EnterEnd.Homograph id) → homograph regions.old region (declared class name.now mark []) ≡ Some id }
 {
     let declared = declaration(alloc, class, name, mark, Vec::new(alloc))?;
     regions.enter(region, name, declared)
@@ -73,7 +78,9 @@ pub(crate) fn enter_with(
     mark: Option<TypeId>,
     operand: DeclId,
 ) -> Result<DeclId, EnterEnd>
-    ensures { OnOk result (regions.new ≡ with_entry regions.old region (declared class name.now mark (operand ∷ []))) }
+    ensures entered { OnOk result (regions.new ≡ with_entry regions.old region (declared class name.now mark (operand ∷ []))) }
+    ensures free { OnOk result (homograph regions.old region (declared class name.now mark (operand ∷ [])) ≡ None) }
+    ensures taken { (id : ℕ) → result ≡ Err (EnterEnd.Homograph id) → homograph regions.old region (declared class name.now mark (operand ∷ [])) ≡ Some id }
 {
     let operands = one_of(alloc, operand)?;
     let declared = declaration(alloc, class, name, mark, operands)?;
@@ -98,7 +105,9 @@ pub(crate) fn enter_unit(
     name: &str,
     inside: u32,
 ) -> Result<(), EnterEnd>
-    ensures { OnOk result (regions.new ≡ with_entry regions.old region (unit class name.now inside)) }
+    ensures entered { OnOk result (regions.new ≡ with_entry regions.old region (unit class name.now inside)) }
+    ensures free { OnOk result (homograph regions.old region (unit class name.now inside) ≡ None) }
+    ensures taken { (id : ℕ) → result ≡ Err (EnterEnd.Homograph id) → homograph regions.old region (unit class name.now inside) ≡ Some id }
 {
     let mut declared = declaration(alloc, class, name, None, Vec::new(alloc))?;
     declared.inside = Some(RegionId::of(inside));
@@ -115,7 +124,9 @@ pub(crate) fn enter_values(
     own: u32,
     names: &[&str],
 ) -> Result<(), EnterEnd>
-    ensures { OnOk result (regions.new ≡ with_values regions.old region class.now own (map (λ n. n.now) names.now)) }
+    ensures entered { OnOk result (regions.new ≡ with_values regions.old region class.now own (map (λ n. n.now) names.now)) }
+    ensures free { OnOk result (clash_of_values regions.old region class.now own (map (λ n. n.now) names.now) ≡ None) }
+    ensures taken { (id : ℕ) → result ≡ Err (EnterEnd.Homograph id) → clash_of_values regions.old region class.now own (map (λ n. n.now) names.now) ≡ Some id }
 {
     for name in names {
         let mark = Some(TypeId::of(own));
@@ -132,8 +143,10 @@ fn enter_operand(
     name: &str,
     own: u32,
 ) -> Result<DeclId, EnterEnd>
-    ensures { IfOk result (λ id. (id ≡ length regions.old.entered)
+    ensures entered { IfOk result (λ id. (id ≡ length regions.old.entered)
         × (regions.new ≡ with_entry regions.old inside (declared class.Parameter name.now (Some own) []))) }
+    ensures free { OnOk result (homograph regions.old inside (declared class.Parameter name.now (Some own) []) ≡ None) }
+    ensures taken { (id : ℕ) → result ≡ Err (EnterEnd.Homograph id) → homograph regions.old inside (declared class.Parameter name.now (Some own) []) ≡ Some id }
 {
     let mark = Some(TypeId::of(own));
     enter_plain(alloc, regions, inside, Class::Parameter, name, mark)
@@ -147,7 +160,9 @@ fn enter_pair(
     own: u32,
 ) -> Result<Pair, EnterEnd>
     requires { region < length regions.old.regions }
-    ensures { IfOk result (λ pair. (pair ≡ pair_of regions.old region own) × (regions.new ≡ with_pair regions.old region own)) }
+    ensures entered { IfOk result (λ pair. (pair ≡ pair_of regions.old region own) × (regions.new ≡ with_pair regions.old region own)) }
+    ensures free { OnOk result (clash_of_pair regions.old region own ≡ None) }
+    ensures taken { (id : ℕ) → result ≡ Err (EnterEnd.Homograph id) → clash_of_pair regions.old region own ≡ Some id }
 {
     let inside = regions.nest(region)?;
     let left = enter_operand(alloc, regions, inside, "l", own)?;
@@ -167,7 +182,9 @@ fn enter_pair_of(
     other: Pair,
 ) -> Result<Pair, EnterEnd>
     requires { region < length regions.old.regions }
-    ensures { IfOk result (λ pair. (pair ≡ pair_or regions.old region element other) × (regions.new ≡ with_pair_of regions.old region element)) }
+    ensures entered { IfOk result (λ pair. (pair ≡ pair_or regions.old region element other) × (regions.new ≡ with_pair_of regions.old region element)) }
+    ensures free { OnOk result (clash_of_pair_of regions.old region element ≡ None) }
+    ensures taken { (id : ℕ) → result ≡ Err (EnterEnd.Homograph id) → clash_of_pair_of regions.old region element ≡ Some id }
 {
     match element {
         Some(element) => enter_pair(alloc, regions, region, element),
@@ -184,7 +201,9 @@ fn enter_operands(
     element: Option<u32>,
 ) -> Result<Operands, EnterEnd>
     requires { region < length regions.old.regions }
-    ensures { IfOk result (λ operands. (operands ≡ operands_of regions.old region own element) × (regions.new ≡ with_operands regions.old region own element)) }
+    ensures entered { IfOk result (λ operands. (operands ≡ operands_of regions.old region own element) × (regions.new ≡ with_operands regions.old region own element)) }
+    ensures free { OnOk result (clash_of_operands regions.old region own element ≡ None) }
+    ensures taken { (id : ℕ) → result ≡ Err (EnterEnd.Homograph id) → clash_of_operands regions.old region own element ≡ Some id }
 {
     let pair = enter_pair(alloc, regions, region, own)?;
     let elements = enter_pair_of(alloc, regions, region, element, pair)?;
@@ -245,7 +264,9 @@ fn enter_operator(
     operands: &Operands,
     operator: &Operator,
 ) -> Result<DeclId, EnterEnd>
-    ensures { OnOk result (regions.new ≡ with_entry regions.old region (operator_of class.now operands.now (seen_operator operator.now))) }
+    ensures entered { OnOk result (regions.new ≡ with_entry regions.old region (operator_of class.now operands.now (seen_operator operator.now))) }
+    ensures free { OnOk result (homograph regions.old region (operator_of class.now operands.now (seen_operator operator.now)) ≡ None) }
+    ensures taken { (id : ℕ) → result ≡ Err (EnterEnd.Homograph id) → homograph regions.old region (operator_of class.now operands.now (seen_operator operator.now)) ≡ Some id }
 {
     let ids = parameters(alloc, operands, operator)?;
     let mark = Some(TypeId::of(result_type(operands, operator.result)));
@@ -262,7 +283,9 @@ fn enter_group(
     operands: &Operands,
     group: &[Operator],
 ) -> Result<(), EnterEnd>
-    ensures { OnOk result (regions.new ≡ with_group regions.old region class.now operands.now (map seen_operator group.now)) }
+    ensures entered { OnOk result (regions.new ≡ with_group regions.old region class.now operands.now (map seen_operator group.now)) }
+    ensures free { OnOk result (clash_of_group regions.old region class.now operands.now (map seen_operator group.now) ≡ None) }
+    ensures taken { (id : ℕ) → result ≡ Err (EnterEnd.Homograph id) → clash_of_group regions.old region class.now operands.now (map seen_operator group.now) ≡ Some id }
 {
     for operator in group {
         enter_operator(alloc, regions, region, class, operands, operator)?;
@@ -279,7 +302,9 @@ fn enter_groups(
     operands: &Operands,
     groups: &[Group],
 ) -> Result<(), EnterEnd>
-    ensures { OnOk result (regions.new ≡ with_groups regions.old region class.now operands.now groups.now) }
+    ensures entered { OnOk result (regions.new ≡ with_groups regions.old region class.now operands.now groups.now) }
+    ensures free { OnOk result (clash_of_groups regions.old region class.now operands.now groups.now ≡ None) }
+    ensures taken { (id : ℕ) → result ≡ Err (EnterEnd.Homograph id) → clash_of_groups regions.old region class.now operands.now groups.now ≡ Some id }
 {
     for group in groups {
         let operators = operators_in(*group);
@@ -299,7 +324,9 @@ pub(crate) fn enter_operators(
     groups: &[Group],
 ) -> Result<(), EnterEnd>
     requires { region < length regions.old.regions }
-    ensures { OnOk result (regions.new ≡ with_operators regions.old region class.now own element groups.now) }
+    ensures entered { OnOk result (regions.new ≡ with_operators regions.old region class.now own element groups.now) }
+    ensures free { OnOk result (clash_of_operators regions.old region class.now own element groups.now ≡ None) }
+    ensures taken { (id : ℕ) → result ≡ Err (EnterEnd.Homograph id) → clash_of_operators regions.old region class.now own element groups.now ≡ Some id }
 {
     let operands = enter_operands(alloc, regions, region, own, element)?;
     enter_groups(alloc, regions, region, class, &operands, groups)
@@ -327,7 +354,7 @@ fn groups_of_arrays(regions: &Regions, element: TypeId) -> &'static [Group]
     }
 }
 
-/// Enters the operators that a type of a user brings with it, right behind the type. Where memory ran out, some may be entered.
+/// Enters the operators that a type of a user brings with it, right behind the type. After an Err some may be entered.
 pub fn declare_operators(
     alloc: Global,
     regions: &mut Regions,
@@ -337,7 +364,9 @@ pub fn declare_operators(
 ) -> Result<(), EnterEnd>
     requires region_in { region < length regions.old.regions }
     requires known { All (λ t. t < length regions.old.entered) (types_of class) }
-    ensures { OnOk result (regions.new ≡ with_operators_of regions.old region own class) }
+    ensures entered { OnOk result (regions.new ≡ with_operators_of regions.old region own class) }
+    ensures free { OnOk result (clash_of_operators_of regions.old region own class ≡ None) }
+    ensures taken { (id : ℕ) → result ≡ Err (EnterEnd.Homograph id) → clash_of_operators_of regions.old region own class ≡ Some id }
 {
     let operator = Class::PredefinedOperator;
     let number = own.number();

@@ -1,8 +1,10 @@
 //! The libraries and packages that are given.
 
-ghost use Rattle.std.specs.Prelude.{◌≡◌, ◌<◌, ◌≤◌, [], OnOk, map, length};
+ghost use Rattle.std.specs.Prelude.{◌≡◌, ◌≢◌, ℕ, ◌<◌, ◌≤◌, [], OnOk, Err, Some, None, map, length};
+ghost use Rattle.vd_regions.specs.Homographs.{homograph};
 ghost use Rattle.vd_given.specs.Entries.{declared, with_entry};
 ghost use Rattle.vd_given.specs.Given.{with_type, with_function, class_of, with_line, holds_in, with_row, with_rows, start, with_regions, with_units, with_packages, given_scopes};
+ghost use Rattle.vd_given.specs.GivenClashes.{clash_of_type, clash_of_function, clash_of_line, clash_of_row, clash_of_rows, clash_of_units, clash_of_packages};
 ghost use Rattle.vd_given.specs.Seen.{seen_line, seen_row};
 
 use crate::entering::{enter_operators, enter_plain, enter_unit, enter_values, enter_with};
@@ -33,7 +35,9 @@ fn enter_only(
     name: &str,
     mark: Option<TypeId>,
 ) -> Result<(), EnterEnd>
-    ensures { OnOk result (regions.new ≡ with_entry regions.old region (declared class name.now mark [])) }
+    ensures entered { OnOk result (regions.new ≡ with_entry regions.old region (declared class name.now mark [])) }
+    ensures free { OnOk result (homograph regions.old region (declared class name.now mark []) ≡ None) }
+    ensures taken { (id : ℕ) → result ≡ Err (EnterEnd.Homograph id) → homograph regions.old region (declared class name.now mark []) ≡ Some id }
 {
     enter_plain(alloc, regions, region, class, name, mark)?;
     Ok(())
@@ -49,7 +53,9 @@ fn enter_type(
     name: &str,
     names: &[&str],
 ) -> Result<(), EnterEnd>
-    ensures { OnOk result (regions.new ≡ with_type regions.old region class values.now name.now (map (λ n. n.now) names.now)) }
+    ensures entered { OnOk result (regions.new ≡ with_type regions.old region class values.now name.now (map (λ n. n.now) names.now)) }
+    ensures free { OnOk result (clash_of_type regions.old region class values.now name.now (map (λ n. n.now) names.now) ≡ None) }
+    ensures taken { (id : ℕ) → result ≡ Err (EnterEnd.Homograph id) → clash_of_type regions.old region class values.now name.now (map (λ n. n.now) names.now) ≡ Some id }
 {
     let own = enter_plain(alloc, regions, region, class, name, None)?;
     enter_values(alloc, regions, region, values, own.number(), names)
@@ -67,7 +73,9 @@ fn enter_function(
     result_is: u32,
 ) -> Result<(), EnterEnd>
     requires { region < length regions.old.regions }
-    ensures { OnOk result (regions.new ≡ with_function regions.old region class name.now parameter.now own result_is) }
+    ensures entered { OnOk result (regions.new ≡ with_function regions.old region class name.now parameter.now own result_is) }
+    ensures free { OnOk result (clash_of_function regions.old region class name.now parameter.now own result_is ≡ None) }
+    ensures taken { (id : ℕ) → result ≡ Err (EnterEnd.Homograph id) → clash_of_function regions.old region class name.now parameter.now own result_is ≡ Some id }
 {
     let inside = regions.nest(region)?;
     let mark = Some(TypeId::of(own));
@@ -85,7 +93,9 @@ fn enter_line(
     line: &Line,
 ) -> Result<(), EnterEnd>
     requires { region < length regions.old.regions }
-    ensures { OnOk result (regions.new ≡ with_line regions.old region (seen_line line.now)) }
+    ensures entered { OnOk result (regions.new ≡ with_line regions.old region (seen_line line.now)) }
+    ensures free { OnOk result (clash_of_line regions.old region (seen_line line.now) ≡ None) }
+    ensures taken { (id : ℕ) → result ≡ Err (EnterEnd.Homograph id) → clash_of_line regions.old region (seen_line line.now) ≡ Some id }
 {
     match line {
         Line::Enumeration(name, literals) => {
@@ -150,6 +160,8 @@ fn enter_row(
     requires { region < length regions.old.regions }
     ensures entered { OnOk result (regions.new ≡ with_row revision regions.old region (seen_row row.now)) }
     ensures grows { OnOk result (length regions.old.regions ≤ length regions.new.regions) }
+    ensures free { OnOk result (clash_of_row revision regions.old region (seen_row row.now) ≡ None) }
+    ensures taken { (id : ℕ) → result ≡ Err (EnterEnd.Homograph id) → clash_of_row revision regions.old region (seen_row row.now) ≡ Some id }
 {
     if holds_in(revision, row.0) {
         enter_line(alloc, regions, region, &row.1)?;
@@ -168,6 +180,8 @@ fn enter_rows(
     requires { region < length regions.old.regions }
     ensures entered { OnOk result (regions.new ≡ with_rows revision regions.old region (map seen_row rows.now)) }
     ensures grows { OnOk result (length regions.old.regions ≤ length regions.new.regions) }
+    ensures free { OnOk result (clash_of_rows revision regions.old region (map seen_row rows.now) ≡ None) }
+    ensures taken { (id : ℕ) → result ≡ Err (EnterEnd.Homograph id) → clash_of_rows revision regions.old region (map seen_row rows.now) ≡ Some id }
 {
     for row in rows {
         enter_row(alloc, regions, region, revision, row)?;
@@ -180,6 +194,8 @@ fn enter_packages(alloc: Global, regions: &mut Regions, revision: Revision) -> R
     requires { regions.old ≡ with_units }
     ensures entered { OnOk result (regions.new ≡ with_packages revision) }
     ensures grows { OnOk result (REGION_OF_1164 < length regions.new.regions) }
+    ensures free { OnOk result (clash_of_packages revision ≡ None) }
+    ensures taken { (id : ℕ) → result ≡ Err (EnterEnd.Homograph id) → clash_of_packages revision ≡ Some id }
 {
     let standard = RegionId::of(REGION_OF_STANDARD);
     let logic = RegionId::of(REGION_OF_1164);
@@ -207,7 +223,9 @@ fn make_regions(regions: &mut Regions) -> Result<(), AllocError>
 /// Enters the libraries and the names of the packages.
 fn enter_units(alloc: Global, regions: &mut Regions) -> Result<(), EnterEnd>
     requires { regions.old ≡ with_regions }
-    ensures { OnOk result (regions.new ≡ with_units) }
+    ensures entered { OnOk result (regions.new ≡ with_units) }
+    ensures free { OnOk result (clash_of_units ≡ None) }
+    ensures taken { (id : ℕ) → result ≡ Err (EnterEnd.Homograph id) → clash_of_units ≡ Some id }
 {
     enter_unit(
         alloc,
@@ -253,9 +271,11 @@ fn enter_units(alloc: Global, regions: &mut Regions) -> Result<(), EnterEnd>
 }
 
 /// All that is given, with a use clause for `std.standard` round all units.
+#[tactic(auto, using(crate::proofs::NoClashLemmas::no_clash_of_units, crate::proofs::NoClashLemmas::no_clash_of_packages))]
 fn enter_all(alloc: Global, regions: &mut Regions, revision: Revision) -> Result<(), EnterEnd>
     requires { regions.old ≡ start }
-    ensures { OnOk result (regions.new ≡ given_scopes revision) }
+    ensures entered { OnOk result (regions.new ≡ given_scopes revision) }
+    ensures apart { (id : ℕ) → result ≢ Err (EnterEnd.Homograph id) }
 {
     make_regions(regions)?;
     enter_units(alloc, regions)?;
@@ -267,14 +287,14 @@ fn enter_all(alloc: Global, regions: &mut Regions, revision: Revision) -> Result
     Ok(())
 }
 
-/// Enters what is given to each design of a revision. After an Err the regions may only be dropped. The tables have no homographs: one would
-/// be answered as want of memory.
+/// Enters what is given to each design of a revision. After an Err the regions may only be dropped.
 pub fn given(alloc: Global, regions: &mut Regions, revision: Revision) -> Result<(), AllocError>
     requires { regions.old ≡ start }
     ensures { OnOk result (regions.new ≡ given_scopes revision) }
 {
     match enter_all(alloc, regions, revision) {
         Ok(()) => Ok(()),
-        Err(_) => Err(AllocError),
+        Err(EnterEnd::Memory) => Err(AllocError),
+        Err(EnterEnd::Homograph(_)) => unreachable!(),
     }
 }

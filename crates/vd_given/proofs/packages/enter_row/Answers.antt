@@ -11,7 +11,7 @@ returns-clause-grows c = elim c.if-holds_in.branch [
       omega (
         arith,
         ap (λ (s : Scopes). length s.regions) w.regions-is,
-        ap (λ (s : Scopes). length s.regions) w.in_ok-enter_line.ensures,
+        ap (λ (s : Scopes). length s.regions) w.in_ok-enter_line.ensures.entered,
         line_grows c.args.regions.now c.args.region (seen_line c.args.row.now.1),
       )
   | else-holds_in w ↦ omega (arith, ap (λ (s : Scopes). length s.regions) w.regions-is)
