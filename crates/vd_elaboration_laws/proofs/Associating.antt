@@ -1,8 +1,6 @@
 -- Associations and instances with other numbers.
-use Rattle.std.proofs.Common.{◌≡◌, ℕ, zero, suc, Bool, true, false, List, [], ◌∷◌, ◌++◌, length, Option, Some, None, map, refl, sym, ap, ◌∙◌, subst}
-use Rattle.std.specs.Prelude.{◌+◌, ◌==◌, ◌||◌, ◌&&◌, not, bytes_eq, if◌then◌else◌, Ok, Err}
-use Rattle.std.specs.List.{AllZip, list_any}
-use Rattle.vd_bytes.specs.declared.answers.Limit.TheVariants as limit
+use Rattle.std.proofs.Common.{◌≡◌, ℕ, suc, Bool, true, false, List, [], ◌∷◌, ◌++◌, length, Option, Some, None, map, refl, sym, ap, ◌∙◌, subst}
+use Rattle.std.specs.Prelude.{◌+◌, ◌||◌, ◌&&◌, not, if◌then◌else◌, Ok, Err}
 use Rattle.vd_kernel.specs.Correspondence.{BothOrNone}
 use Rattle.vd_kernel.specs.declared.assignments.Delay.TheVariants.{Inertial}
 use Rattle.vd_values.specs.declared.scalar.Scalar.{Scalar}
@@ -10,19 +8,16 @@ use Rattle.vd_trees.specs.declared.paths.Scope.{Scope}
 use Rattle.vd_composites.specs.Stops.{◌>>=◌}
 use Rattle.vd_composites.specs.Composites.{Value, leaves}
 use Rattle.vd_composites.specs.Subtypes.{fit, default_of}
-use Rattle.vd_environments.specs.Got.{Got, got, senseless}
-use Rattle.vd_environments.specs.Environments.{ScalarSignal, Signals, Static, is_static, Env, Indicated}
-use Rattle.vd_environments.specs.Environments.{with_object as with_constant}
-use Rattle.vd_environments.specs.Processes.{Process}
+use Rattle.vd_environments.specs.Got.{Got, got}
+use Rattle.vd_environments.specs.Environments.{ScalarSignal, Signals, is_static, Env, Indicated}
 use Rattle.vd_meaning.specs.Facets.{Meaning, Objects, at_once}
 use Rattle.vd_meaning.specs.Statements.{driving}
-use Rattle.vd_elaboration.specs.Layouts.{Counted}
 use Rattle.vd_elaboration.specs.Building.{Made, Built, Failing, Limited, evaluated, looking, inside_instance, counted, layout_of, size_of_object, Start, plain_start, seen_in, signals_of, scalar_objects, State}
-use Rattle.vd_elaboration.specs.Facets.{View, Ports, Actual, Instance, Hierarchy, Elaborating, Unit', EntityUnit, ArchitectureUnit, PackageUnit}
-use Rattle.vd_elaboration.specs.Instances.{known_early, Port, port_indicated, tied_start, tied_starts, port_sources, ties, tied_port, open_port, open_starts, is_signal, is_implicit, implicit_name, target_named, implicit_process, added, with_implicit, with_generics, ports_of}
-use Rattle.vd_elaboration.specs.Hierarchies.{EntityText, ArchitectureText, default_put, put_value, is_named, put, put_all, put_generics, generic_actual, port_actual, implicit_subtype, if_implicit, for_names, for_implicit, count_implicit, make_implicit, implicit_scalars, port_scalars, Associating, with_signal_actual, with_value_actual, associated, all_associated, label_of, leaving, entity_elaborated, instance_of, ahead_of}
+use Rattle.vd_elaboration.specs.Facets.{View, Ports, Actual, Instance, Hierarchy}
+use Rattle.vd_elaboration.specs.Instances.{Port, port_indicated, tied_starts, port_sources, ties, tied_port, open_port, open_starts, is_signal, is_implicit, implicit_name, target_named, implicit_process, added, with_implicit}
+use Rattle.vd_elaboration.specs.Hierarchies.{EntityText, ArchitectureText, default_put, put_value, is_named, put, put_all, put_generics, generic_actual, port_actual, implicit_subtype, if_implicit, for_names, for_implicit, count_implicit, make_implicit, implicit_scalars, port_scalars, Associating, with_signal_actual, with_value_actual, associated, all_associated, leaving, entity_elaborated}
 use Rattle.vd_meaning_laws.specs.Agreement.{Link, IsApart, through, Agree, number_in}
-use Rattle.vd_meaning_laws.specs.Renumbering.{AlikeMeaning, AlikeProcess, objects_in, default_in, name_in, waveform_in}
+use Rattle.vd_meaning_laws.specs.Renumbering.{AlikeMeaning, AlikeProcess, objects_in, default_in}
 use Rattle.vd_meaning_laws.proofs.Doing.{driving_alike}
 use Rattle.vd_elaboration_laws.specs.Agreement.{ports_in, view_under, AlikeActual, AlikeInstance, AlikeMade, AlikeState, AlikeBuilt, AlikeStates, AlikeHierarchy, AlikeElaborating}
 use Rattle.vd_elaboration_laws.proofs.Built.{built_then, evaluated_then, counted_alike, looking_alike, more_signals, signals_same, object_alike, process_alike}
@@ -44,13 +39,15 @@ module _ (l : Link) (numbers : IsApart l) where
   tied_alike : (inner : Scope) (p : Port) (ns : List ScalarSignal) (s t : State) → AlikeState l s t → AlikeState l (tied_port inner p ns s) (tied_port inner (port_in l numbers p) ns t)
   tied_alike inner p ns s t h =
       let o = subst (λ x. AlikeState l (Rattle.vd_elaboration.specs.Building.with_object inner p.number p.name p.indicated (tied_starts s.made p.modes p.initial ns) s) (Rattle.vd_elaboration.specs.Building.with_object inner (l.number p.number) p.name p.indicated x t))
-          (sym (starts_same s.made t.made h.made.signals p ns)) (object_alike l numbers inner p.number p.name p.indicated (tied_starts s.made p.modes p.initial ns) s t h) in
+      (sym (starts_same s.made t.made h.made.signals p ns)) (object_alike l numbers inner p.number p.name p.indicated (tied_starts s.made p.modes p.initial ns) s t h) in
       record {
         env = o.env;
         made = record {
-          signals = o.made.signals; counted = o.made.counted;
+          signals = o.made.signals;
+          counted = o.made.counted;
           sources = λ i. o.made.sources i ++ sources_same s.made t.made h.made.signals p ns i;
-          driven = o.made.driven; processes = o.made.processes;
+          driven = o.made.driven;
+          processes = o.made.processes;
         };
       }
 

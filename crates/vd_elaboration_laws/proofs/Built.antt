@@ -1,6 +1,6 @@
 -- Evaluations, signals and processes in elaborations that are alike.
-use Rattle.std.proofs.Common.{◌≡◌, ℕ, zero, suc, Bool, true, false, List, [], ◌∷◌, ◌++◌, length, Option, Some, None, map, refl, sym, ap, ◌∙◌, subst}
-use Rattle.std.specs.Prelude.{◌+◌, ◌==◌, nat_lt, if◌then◌else◌, slice_index_or, Ok, Err}
+use Rattle.std.proofs.Common.{◌≡◌, ℕ, suc, Bool, true, false, List, [], ◌∷◌, ◌++◌, length, map, refl, sym, ap, subst}
+use Rattle.std.specs.Prelude.{◌+◌, nat_lt, if◌then◌else◌, slice_index_or, Ok, Err}
 use Rattle.std.specs.List.{AllZip}
 use Rattle.vd_bytes.specs.declared.answers.Limit.TheVariants as limit
 use Rattle.vd_values.specs.declared.scalar.Scalar.{Scalar}
@@ -9,11 +9,11 @@ use Rattle.vd_trees.specs.declared.paths.Scope.{Scope}
 use Rattle.vd_composites.specs.Stops.{◌>>=◌}
 use Rattle.vd_composites.specs.Composites.{Value, leaves}
 use Rattle.vd_environments.specs.Got.{Got}
-use Rattle.vd_environments.specs.Environments.{Env, Indicated, with_signals, seeing}
+use Rattle.vd_environments.specs.Environments.{Env, Indicated, with_signals}
 use Rattle.vd_environments.specs.Processes.{Process, Elaborated, elaborated}
 use Rattle.vd_meaning.specs.Given.{elaborating}
 use Rattle.vd_elaboration.specs.Building.{ScalarObject, Placed, Made, Failing, Limited, Built, evaluated, seen_in, looking, counted, layout_of, Start, scalar_objects, signals_of, State, with_object, with_signal, plain_start, placed, with_process, with_processes}
-use Rattle.vd_meaning_laws.specs.Agreement.{Link, IsApart, through, Agree, number_in}
+use Rattle.vd_meaning_laws.specs.Agreement.{Link, IsApart, Agree}
 use Rattle.vd_meaning_laws.specs.Renumbering.{AlikeProcess}
 use Rattle.vd_meaning_laws.specs.Laws.{SameElaborated}
 use Rattle.vd_meaning_laws.proofs.Agreeing.{denoting_agrees, view_agrees}

@@ -1,42 +1,34 @@
 -- The congruence for elaboration: a node of any kind comes to the same with other numbers, where its parts do.
 use Rattle.std.proofs.Common.{◌≡◌, ℕ, zero, suc, Bool, true, false, List, [], ◌∷◌, ◌++◌, Option, Some, None, map, refl, sym, ap, ◌∙◌, subst}
-use Rattle.std.specs.Prelude.{◌==◌, if◌then◌else◌, option_to_list, Ok, Err}
+use Rattle.std.specs.Prelude.{if◌then◌else◌, Ok, Err}
 use Rattle.std.specs.List.{AllZip}
 use Rattle.vd_values.specs.declared.scalar.Scalar.{Scalar}
-use Rattle.vd_bytes.specs.declared.places.Place.{Place}
 use Rattle.vd_trees.specs.declared.paths.Scope.{Scope}
 use Rattle.vd_trees.specs.declared.paths.Label.{Label}
-use Rattle.vd_forest.specs.Forest.{Forest, nothing, more}
-use Rattle.vd_rewriting.specs.Forms.{with_forms}
 use Rattle.vd_resolved.specs.declared.node.Resolved.{Resolved}
 use Rattle.vd_composites.specs.Stops.{◌>>=◌}
 use Rattle.vd_composites.specs.Composites.{Value}
 use Rattle.vd_composites.specs.Subtypes.{Subtype, fit, default_of}
-use Rattle.vd_environments.specs.Got.{Got, got, senseless}
+use Rattle.vd_environments.specs.Got.{Got, got}
 use Rattle.vd_environments.specs.Environments.{Env, Indicated, or_senseless, literals_of}
-use Rattle.vd_environments.specs.Commands.{run}
-use Rattle.vd_environments.specs.Processes.{declared_end}
-use Rattle.vd_meaning.specs.Tables.{Table}
 use Rattle.vd_meaning.specs.Names.{number_or}
 use Rattle.vd_meaning.specs.Facets.{Meaning, no_meaning, Association, Positional, ByChoices, ForOthers, ByEquality, value_of}
 use Rattle.vd_meaning.specs.Brackets.{or_else}
 use Rattle.vd_meaning.specs.Statements.{truth_of, values_of_range}
 use Rattle.vd_meaning.specs.Declarations.{initial_value}
-use Rattle.vd_meaning.specs.Kinds as kinds
-use Rattle.vd_meaning.specs.Meanings.{made, node_meaning}
+use Rattle.vd_meaning.specs.Meanings.{made}
 use Rattle.vd_elaboration.specs.Building.{Mode, Made, Built, evaluated, inside_generate, counted, size_of_object, State, with_signal, with_processes}
-use Rattle.vd_elaboration.specs.Facets.{ElementMode, ByMode, ByView, ViewElement, View, Ports, Actual, Instance, Hierarchy, Elaborating, nothing_to_do, one_after_other, Unit', EntityUnit, ArchitectureUnit, PackageUnit, Part, of_meaning, nth, from, last_of, gathered}
-use Rattle.vd_elaboration.specs.Hierarchies.{label_of, leaving}
+use Rattle.vd_elaboration.specs.Facets.{ElementMode, ByView, Elaborating, nothing_to_do, one_after_other, Unit', EntityUnit, ArchitectureUnit, PackageUnit, Part, of_meaning, nth, from, last_of, gathered}
+use Rattle.vd_elaboration.specs.Hierarchies.{label_of}
 use Rattle.vd_elaboration.specs.Parts
 use Rattle.vd_meaning_laws.specs.Agreement.{Link, IsApart, through, Agree, AgreeAfter, number_in}
-use Rattle.vd_meaning_laws.specs.Renumbering.{SameTable, AlikeMeaning, renumbered, objects_in, default_in}
+use Rattle.vd_meaning_laws.specs.Renumbering.{AlikeMeaning, renumbered, default_in}
 use Rattle.vd_meaning_laws.proofs.Parts.{none_alike}
 use Rattle.vd_meaning_laws.proofs.Doing.{truths_alike, values_same}
 use Rattle.vd_meaning_laws.proofs.Elaborating.{ended}
 use Rattle.vd_meaning_laws.proofs.Nodes.{made_number, either_same, list_same}
 use Rattle.vd_meaning_laws.proofs.Facing.{with_text, with_covers}
-use Rattle.vd_meaning_laws.proofs.Cases.{kind_alike}
-use Rattle.vd_elaboration_laws.specs.Agreement.{element_mode_in, element_in, view_under, ports_in, AlikeActual, AlikeInstance, AlikeState, AlikeBuilt, AlikeStates, AlikeHierarchy, AlikeElaborating, AlikeUnit, AlikePart}
+use Rattle.vd_elaboration_laws.specs.Agreement.{element_mode_in, element_in, view_under, ports_in, AlikeActual, AlikeInstance, AlikeState, AlikeStates, AlikeElaborating, AlikeUnit, AlikePart}
 use Rattle.vd_elaboration_laws.proofs.Built.{built_then, evaluated_then, counted_alike, signal_alike, processes_alike}
 use Rattle.vd_elaboration_laws.proofs.Interfaces.{constant_agrees, value_agreed, in_agreed}
 use Rattle.vd_elaboration_laws.proofs.Associating.{left_alike}
@@ -52,8 +44,21 @@ module _ (l : Link) (numbers : IsApart l) where
   pub meaning_alike : (m n : Meaning) → AlikeMeaning l m n → AlikePart l (of_meaning m) (of_meaning n)
   meaning_alike m n h =
       record {
-        meaning = h; named = refl; formal = refl; mode = refl; elements = refl; views = refl; ports = refl; actuals = tt; declaring = nothing_alike; region = nothing_alike;
-        ahead = λ label. nothing_alike; elaborating = λ label. nothing_alike; otherwise = λ label f g h. h; cases = λ label s. nothing_alike; units = tt;
+        meaning = h;
+        named = refl;
+        formal = refl;
+        mode = refl;
+        elements = refl;
+        views = refl;
+        ports = refl;
+        actuals = tt;
+        declaring = nothing_alike;
+        region = nothing_alike;
+        ahead = λ label. nothing_alike;
+        elaborating = λ label. nothing_alike;
+        otherwise = λ label f g h. h;
+        cases = λ label s. nothing_alike;
+        units = tt;
       }
 
   pub nth_alike : (k : ℕ) (ps qs : List Part) → PartsAlike ps qs → AlikePart l (nth k ps) (nth k qs)
@@ -103,12 +108,21 @@ module _ (l : Link) (numbers : IsApart l) where
   gathering_alike : (m n : Meaning) → AlikeMeaning l m n → (ps qs : List Part) → PartsAlike ps qs → AlikePart l (Parts.gathering m ps) (Parts.gathering n qs)
   gathering_alike m n k ps qs h =
       record {
-        meaning = k; named = gathered_same l.number (λ p. p.named) (λ p q k. k.named) ps qs h; formal = refl; mode = refl;
+        meaning = k;
+        named = gathered_same l.number (λ p. p.named) (λ p q k. k.named) ps qs h;
+        formal = refl;
+        mode = refl;
         elements = gathered_same (element_in l) (λ p. p.elements) (λ p q k. k.elements) ps qs h;
         views = gathered_views ps qs h;
         ports = gathered_same (ports_in l) (λ p. p.ports) (λ p q k. k.ports) ps qs h;
-        actuals = tt; declaring = nothing_alike; region = nothing_alike; ahead = λ label. nothing_alike; elaborating = λ label. nothing_alike;
-        otherwise = λ label f g h. h; cases = λ label s. nothing_alike; units = gathered_units ps qs h;
+        actuals = tt;
+        declaring = nothing_alike;
+        region = nothing_alike;
+        ahead = λ label. nothing_alike;
+        elaborating = λ label. nothing_alike;
+        otherwise = λ label f g h. h;
+        cases = λ label s. nothing_alike;
+        units = gathered_units ps qs h;
       }
 
   formal_same : (a b : Association) → b ≡ a → (x y : Option ℕ) → y ≡ number_in l x → Parts.formal_in b y ≡ number_in l (Parts.formal_in a x)
@@ -342,9 +356,12 @@ module _ (l : Link) (numbers : IsApart l) where
         Facing.with_units l (gathering_alike m m' a ps qs h) _ _ (unit_zip (EntityUnit (nth 0 ps).meaning.text (nth 1 ps).meaning.objects (nth 2 ps).ports) (EntityUnit (nth 0 qs).meaning.text (nth 1 qs).meaning.objects (nth 2 qs).ports) ((part 0).meaning.text, (part 1).meaning.objects, (part 2).ports))
     part_alike Parts.Architecture n m m' a =
         Facing.with_units l (gathering_alike m m' a ps qs h) _ _
-        (unit_zip (ArchitectureUnit (nth 0 ps).meaning.text (nth 1 ps).meaning.text (λ h scope s. (nth 2 ps).declaring h scope s >>= (nth 3 ps).region h scope)) (ArchitectureUnit (nth 0 qs).meaning.text (nth 1 qs).meaning.text (λ h scope s. (nth 2 qs).declaring h scope s >>= (nth 3 qs).region h scope))
-        ((part 0).meaning.text, (part 1).meaning.text, λ g g' hs scope s t b.
-        built_then (AlikeState l) (AlikeState l) _ _ _ _ ((part 2).declaring g g' hs scope s t b) ((part 3).region g g' hs scope)))
+        (unit_zip (ArchitectureUnit (nth 0 ps).meaning.text (nth 1 ps).meaning.text (λ h scope s. (nth 2 ps).declaring h scope s >>= (nth 3 ps).region h scope)) (ArchitectureUnit (nth 0 qs).meaning.text (nth 1 qs).meaning.text (λ h scope s. (nth 2 qs).declaring h scope s >>= (nth 3 qs).region h scope)) (
+          (part 0).meaning.text,
+          (part 1).meaning.text,
+          λ g g' hs scope s t b.
+              built_then (AlikeState l) (AlikeState l) _ _ _ _ ((part 2).declaring g g' hs scope s t b) ((part 3).region g g' hs scope),
+        ))
     part_alike Parts.Package n m m' a =
         Facing.with_units l (gathering_alike m m' a ps qs h) _ _
         (package_units (nth 1 ps).meaning.is_present (nth 1 qs).meaning.is_present (part 1).meaning.is_present _ _ (part 0).meaning.text _ _ (part 2).declaring)

@@ -51,4 +51,3 @@ module _ (l : Link) where
 
   pub with_units : {p q : Part} → AlikePart l p q → (x y : List Unit') → (AllZip (AlikeUnit l) x y) → AlikePart l (record p { units = x }) (record q { units = y })
   with_units h x y z = record { meaning = h.meaning; named = h.named; formal = h.formal; mode = h.mode; elements = h.elements; views = h.views; ports = h.ports; actuals = h.actuals; declaring = h.declaring; region = h.region; ahead = h.ahead; elaborating = h.elaborating; otherwise = h.otherwise; cases = h.cases; units = z }
-

@@ -1,6 +1,6 @@
 -- Views, generics and ports with other numbers.
 use Rattle.std.proofs.Common.{◌≡◌, ℕ, zero, suc, Bool, true, false, List, [], ◌∷◌, ◌++◌, length, Option, Some, None, map, refl, sym, ap, ◌∙◌, subst}
-use Rattle.std.specs.Prelude.{◌+◌, ◌==◌, bytes_eq, is_some, not, ◌&&◌, if◌then◌else◌, Ok, Err}
+use Rattle.std.specs.Prelude.{◌+◌, bytes_eq, is_some, if◌then◌else◌, Ok, Err}
 use Rattle.std.specs.List.{AllZip}
 use Rattle.vd_kernel.specs.Correspondence.{BothOrNone}
 use Rattle.vd_values.specs.declared.scalar.Scalar.{Scalar}
@@ -8,19 +8,19 @@ use Rattle.vd_trees.specs.declared.paths.Scope.{Scope}
 use Rattle.vd_composites.specs.Stops.{◌>>=◌}
 use Rattle.vd_composites.specs.Composites.{Value, Items, none, item, leaves}
 use Rattle.vd_composites.specs.Composites.{One, Array, Fields}
-use Rattle.vd_composites.specs.Subtypes.{Subtype, fit, default_of}
-use Rattle.vd_environments.specs.Got.{Got, got, senseless}
+use Rattle.vd_composites.specs.Subtypes.{Subtype, fit}
+use Rattle.vd_environments.specs.Got.{Got, got}
 use Rattle.vd_environments.specs.Environments.{with_object as with_constant}
 use Rattle.vd_environments.specs.Environments.{Make, OfScalar, OfElements, OfFields, Makes, no_makes, and_make, Env, Indicated, or_senseless}
 use Rattle.vd_meaning.specs.Tables.{same_type}
 use Rattle.vd_meaning.specs.Facets.{Meaning, Objects}
 use Rattle.vd_elaboration.specs.Layouts.{Leaf, Counted}
 use Rattle.vd_elaboration.specs.Building.{Mode, Made, Built, evaluated, counted, layout_of, size_of_object}
-use Rattle.vd_elaboration.specs.Facets.{ElementMode, ByMode, ByView, ViewElement, View, Ports, Actual, Instance}
-use Rattle.vd_elaboration.specs.Instances.{conversed, differ, view_in, element_mode, modes_of_fields, modes_of_view, modes_by, port_modes, names_formal, named_actual, nth_actual, or_placed, unless_open, actual_for, generic_value, known_early, with_generic, with_generics_of, with_generics, Port, default_value, marked_by, view_subtype, port_indicated, some_port, ports_named, ports_of}
+use Rattle.vd_elaboration.specs.Facets.{ElementMode, ByMode, ByView, ViewElement, View, Ports, Actual}
+use Rattle.vd_elaboration.specs.Instances.{differ, view_in, element_mode, modes_of_fields, modes_of_view, modes_by, port_modes, names_formal, named_actual, nth_actual, or_placed, unless_open, actual_for, generic_value, known_early, with_generic, with_generics_of, with_generics, Port, default_value, marked_by, view_subtype, port_indicated, some_port, ports_named, ports_of}
 use Rattle.vd_meaning_laws.specs.Agreement.{Link, IsApart, through, Agree, number_in}
 use Rattle.vd_meaning_laws.specs.Renumbering.{AlikeMeaning, objects_in, default_in}
-use Rattle.vd_meaning_laws.proofs.Agreeing.{denoting_agrees, denoted_same}
+use Rattle.vd_meaning_laws.proofs.Agreeing.{denoting_agrees}
 use Rattle.vd_meaning_laws.proofs.Doing.{itself}
 use Rattle.vd_elaboration_laws.specs.Agreement.{element_mode_in, element_in, view_under, ports_in, AlikeActual, AlikeMade, AlikeBuilt}
 use Rattle.vd_elaboration_laws.proofs.Built.{built_then, evaluated_then, counted_alike}

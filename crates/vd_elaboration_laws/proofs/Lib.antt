@@ -4,3 +4,5 @@ pub mod Associating
 pub mod Nesting
 pub mod Facing
 pub mod Cases
+pub mod Trees
+pub mod Designs

@@ -1,18 +1,14 @@
 -- Hierarchies with other numbers.
-use Rattle.std.proofs.Common.{◌≡◌, ℕ, zero, suc, Bool, true, false, List, [], ◌∷◌, length, Option, Some, None, map, refl, sym, ap, ◌∙◌, subst}
-use Rattle.std.specs.Prelude.{◌==◌, ◌&&◌, bytes_eq, if◌then◌else◌, Ok, Err}
+use Rattle.std.proofs.Common.{◌≡◌, ℕ, zero, suc, Bool, true, false, List, [], ◌∷◌, length, Option, Some, None, map, refl, sym, subst}
+use Rattle.std.specs.Prelude.{◌&&◌, bytes_eq, if◌then◌else◌}
 use Rattle.std.specs.List.{AllZip}
 use Rattle.vd_kernel.specs.Correspondence.{BothOrNone}
 use Rattle.vd_trees.specs.declared.paths.Scope.{Scope}
-use Rattle.vd_composites.specs.Stops.{◌>>=◌}
-use Rattle.vd_environments.specs.Got.{senseless}
-use Rattle.vd_meaning.specs.Facets.{Objects}
-use Rattle.vd_elaboration.specs.Building.{Built, evaluated, inside_instance, State}
-use Rattle.vd_elaboration.specs.Facets.{View, Ports, Instance, Hierarchy, Elaborating, Unit', EntityUnit, ArchitectureUnit, PackageUnit}
-use Rattle.vd_elaboration.specs.Hierarchies.{EntityText, entity_in, ArchitectureText, is_wanted, architecture_in, make_implicit, count_implicit, for_implicit, label_of, entity_elaborated, instance_of, ahead_of, hierarchy}
+use Rattle.vd_elaboration.specs.Building.{inside_instance, State}
+use Rattle.vd_elaboration.specs.Facets.{View, Instance, Hierarchy, Unit', EntityUnit, ArchitectureUnit, PackageUnit}
+use Rattle.vd_elaboration.specs.Hierarchies.{EntityText, entity_in, ArchitectureText, is_wanted, architecture_in, make_implicit, count_implicit, label_of, entity_elaborated, instance_of, ahead_of, hierarchy}
 use Rattle.vd_meaning_laws.specs.Agreement.{Link, IsApart}
-use Rattle.vd_meaning_laws.specs.Renumbering.{objects_in}
-use Rattle.vd_elaboration_laws.specs.Agreement.{ports_in, view_under, AlikeInstance, AlikeState, AlikeBuilt, AlikeStates, AlikeHierarchy, AlikeElaborating, AlikeUnit}
+use Rattle.vd_elaboration_laws.specs.Agreement.{view_under, AlikeInstance, AlikeState, AlikeStates, AlikeHierarchy, AlikeUnit}
 use Rattle.vd_elaboration_laws.proofs.Built.{built_then}
 use Rattle.vd_elaboration_laws.proofs.Associating.{entity_under, AlikeArchitecture, implicit_alike, count_alike, make_alike, entity_alike}
 

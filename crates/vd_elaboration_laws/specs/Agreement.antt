@@ -1,13 +1,12 @@
 -- When two trees come to the same in elaboration, where the declarations of the one have other numbers in the other.
-use Rattle.std.specs.Prelude.{◌≡◌, ℕ, List, map, Option, Some, None, Ok, Err}
+use Rattle.std.specs.Prelude.{◌≡◌, ℕ, List, map, Ok, Err}
 use Rattle.std.specs.List.{AllZip}
 use Rattle.vd_values.specs.declared.scalar.Scalar.{Scalar}
-use Rattle.vd_kernel.specs.Correspondence.{BothOrNone}
 use Rattle.vd_trees.specs.declared.paths.Scope.{Scope}
 use Rattle.vd_composites.specs.Composites.{Value}
 use Rattle.vd_environments.specs.Got.{Got}
 use Rattle.vd_environments.specs.Environments.{Env}
-use Rattle.vd_elaboration.specs.Building.{ScalarObject, PortSource, Placed, Made, Failing, Built, State}
+use Rattle.vd_elaboration.specs.Building.{Placed, Made, Built, State}
 use Rattle.vd_elaboration.specs.Facets.{ElementMode, ByMode, ByView, ViewElement, View, Ports, Actual, Instance, Hierarchy, Elaborating, Unit', EntityUnit, ArchitectureUnit, PackageUnit, Part}
 use Rattle.vd_meaning_laws.specs.Agreement.{Link, through, number_in, Agree, AlikeRunning}
 use Rattle.vd_meaning_laws.specs.Renumbering.{AlikeMeaning, objects_in}

@@ -1,2 +1,4 @@
 //! Laws of elaboration, which passes cite.
 #![tactic(auto)]
+
+pub mod laws;
