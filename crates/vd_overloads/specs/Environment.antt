@@ -3,6 +3,8 @@ use Rattle.std.specs.Prelude.{ℕ, Bool, true, false, ◌&&◌, not, List, [], �
 use Rattle.std.specs.List.{list_any}
 use Rattle.vd_bytes.specs.declared.places.Place.{Place}
 use Rattle.vd_forest.specs.Forest.{Forest}
+use Rattle.vd_declarations.specs.declared.classes.Class.{Class}
+use Rattle.vd_declarations.specs.declared.classes.Class.TheVariants as class
 use Rattle.vd_forms.specs.declared.form.Form.{Form}
 use Rattle.vd_given.specs.declared.numbers.TheConstants.{BOOLEAN, STANDARD, STD_LOGIC_1164}
 use Rattle.vd_finding.specs.Finding.{Finder, first_found}
@@ -10,6 +12,8 @@ use Rattle.vd_readings.specs.Readings.{Rules}
 use Rattle.vd_refusals.specs.Refusals.{first_refusal}
 use Rattle.vd_states.specs.declared.states.Want.{Want}
 use Rattle.vd_states.specs.declared.states.Want.TheVariants as want
+use Rattle.vd_overloads.specs.declared.around.Around.{Around}
+use Rattle.vd_overloads.specs.declared.around.Around.TheVariants as around
 use Rattle.vd_overloads.specs.declared.wanted.Wanted.{Wanted}
 use Rattle.vd_overloads.specs.declared.wanted.Wanted.TheVariants as wanted
 use Rattle.vd_sights.specs.declared.kinds.Kind.TheVariants as kind
@@ -31,7 +35,8 @@ condition_symbol = codes "\"??\""
 abbrev pub condition_operators : Sight → List ℕ
 condition_operators s = s.selected STANDARD condition_symbol ++ s.selected STD_LOGIC_1164 condition_symbol
 
--- ---- choices that name nothing: no declaration is visible by the name, and no record type has an element of this name
+-- ---- choices of aggregates that name nothing: no declaration is visible by the name, that of a library aside, and no record type has an
+-- element of this name. What stands in front of `=>` in a call is no choice.
 
 abbrev pub is_some_list : List ℕ → Bool
 is_some_list [] = false
@@ -40,23 +45,45 @@ is_some_list (k ∷ ks) = true
 abbrev pub names_element : Sight → List ℕ → Bool
 names_element s name = list_any (λ t. is_some_list (elements_named s t name)) (all_types s)
 
+abbrev pub is_library : Class → Bool
+is_library class.Library = true
+is_library _ = false
+
+abbrev pub names_declaration : Sight → List ℕ → Bool
+names_declaration s name = list_any (λ k. not (is_library (class_of s k))) (s.visible name)
+
 abbrev pub names_nothing : Sight → Option (List ℕ) → Bool
 names_nothing s None = false
-names_nothing s (Some name) = not (is_some_list (s.visible name)) && not (names_element s name)
+names_nothing s (Some name) = not (names_declaration s name) && not (names_element s name)
 
-abbrev pub are_choices : Form → Bool
-are_choices form = elim (kind_of form) [ kind.AssociationChoices ↦ true | _ ↦ false ]
+-- the choices of an association, which are those of an aggregate unless it is an argument
+abbrev pub choices_in : Around → Around
+choices_in around.Arguments = around.Anything
+choices_in around.Choices = around.Choices
+choices_in around.Anything = around.Choices
 
--- the place of a tree that is one, where it stands among choices
-abbrev pub unknown_finder : Sight → Finder Form Bool Place
+abbrev pub down_from : Around → Form → Around
+down_from a form =
+    elim (kind_of form) [
+      kind.Arguments ↦ around.Arguments
+    | kind.Association ↦ a
+    | kind.AssociationChoices ↦ choices_in a
+    | _ ↦ around.Anything ]
+
+abbrev pub are_choices : Around → Bool
+are_choices around.Choices = true
+are_choices _ = false
+
+-- the place of a tree that is one
+abbrev pub unknown_finder : Sight → Finder Form Around Place
 unknown_finder s = record {
-  answer = λ among form text place parts. if among && names_nothing s (simple_name form parts) then Some place else None;
-  down = λ among form text place parts. are_choices form;
-  along = λ among form text place parts. among;
+  answer = λ a form text place parts. if are_choices a && names_nothing s (simple_name form parts) then Some place else None;
+  down = λ a form text place parts. down_from a form;
+  along = λ a form text place parts. a;
 }
 
 abbrev pub first_unknown : Sight → Forest Form → Option Place
-first_unknown s tree = first_found (unknown_finder s) false tree
+first_unknown s tree = first_found (unknown_finder s) around.Anything tree
 
 -- ---- what is known there, beside the language
 

@@ -1,6 +1,7 @@
 //! Overload resolution: the one interpretation of an expression, or why it has none or several.
 #![tactic(auto)]
 
+pub mod around;
 pub mod env;
 pub mod laws;
 pub mod resolving;

@@ -3,10 +3,12 @@
 ghost use Rattle.std.specs.Prelude.{◌≡◌, IfOk, Some};
 ghost use Rattle.std.specs.Option.{option_copied};
 ghost use Rattle.vd_sights.specs.Sights.{sight_from};
-ghost use Rattle.vd_overloads.specs.Environment.{names_element, names_nothing, are_choices, first_unknown};
+ghost use Rattle.vd_overloads.specs.Environment.{names_declaration as declaration_named, names_element, names_nothing, choices_in as choices_under, down_from as down_under, are_choices as choices_are, first_unknown};
 
+use crate::around::Around;
 use std::alloc::{AllocError, Global};
 use vd_bytes::Place;
+use vd_declarations::Class;
 use vd_finding::{Finding, find_first};
 use vd_forest::{Cursor, Opened};
 use vd_forms::Form;
@@ -20,7 +22,7 @@ struct Choices<'a> {
     place: &'a Surroundings<'a>,
 }
 
-impl<'a> Finding<Form, bool, Place> for Choices<'a> {
+impl<'a> Finding<Form, Around, Place> for Choices<'a> {
     ghost use Rattle.vd_sights.specs.Sights.{sight_from};
     ghost use Rattle.vd_overloads.specs.Environment.{unknown_finder};
 
@@ -29,10 +31,10 @@ impl<'a> Finding<Form, bool, Place> for Choices<'a> {
     fn answer(
         &self,
         alloc: Global,
-        state: &bool,
+        state: &Around,
         node: &Opened<'_, Form>,
     ) -> Result<Option<Place>, AllocError> {
-        if *state && names_nothing(alloc, self.place, simple_name(node.form, &node.parts))? {
+        if are_choices(*state) && names_nothing(alloc, self.place, simple_name(node.form, &node.parts))? {
             return Ok(Some(node.place));
         }
         Ok(None)
@@ -41,18 +43,18 @@ impl<'a> Finding<Form, bool, Place> for Choices<'a> {
     fn down(
         &self,
         _alloc: Global,
-        _state: &bool,
+        state: &Around,
         node: &Opened<'_, Form>,
-    ) -> Result<bool, AllocError> {
-        Ok(are_choices(node.form))
+    ) -> Result<Around, AllocError> {
+        Ok(down_from(*state, node.form))
     }
 
     fn along(
         &self,
         _alloc: Global,
-        state: &bool,
+        state: &Around,
         _node: &Opened<'_, Form>,
-    ) -> Result<bool, AllocError> {
+    ) -> Result<Around, AllocError> {
         Ok(*state)
     }
 }
@@ -65,14 +67,53 @@ pub fn first_unknown(
 ) -> Result<Option<Place>, AllocError>
     ensures { IfOk result (λ found. found ≡ first_unknown (sight_from place.now) tree.now) }
 {
-    find_first(alloc, tree, false, &Choices { place })
+    find_first(alloc, tree, Around::Anything, &Choices { place })
 }
 
-/// Whether the parts of a node are choices of an association.
-fn are_choices(form: Form) -> bool
-    ensures { result ≡ are_choices form }
+/// What the choices of an association are.
+fn choices_in(around: Around) -> Around
+    ensures { result ≡ choices_under around }
 {
-    matches!(kind_of(form), Kind::AssociationChoices)
+    match around {
+        Around::Arguments => Around::Anything,
+        Around::Choices | Around::Anything => Around::Choices,
+    }
+}
+
+/// What stands round the parts of a node.
+fn down_from(around: Around, form: Form) -> Around
+    ensures { result ≡ down_under around form }
+{
+    match kind_of(form) {
+        Kind::Arguments => Around::Arguments,
+        Kind::Association => around,
+        Kind::AssociationChoices => choices_in(around),
+        _ => Around::Anything,
+    }
+}
+
+/// Whether a tree is a choice of an aggregate.
+fn are_choices(around: Around) -> bool
+    ensures { result ≡ choices_are around }
+{
+    matches!(around, Around::Choices)
+}
+
+/// Whether a name means a declaration that is no library.
+fn names_declaration(
+    alloc: Global,
+    place: &Surroundings<'_>,
+    name: &[u8],
+) -> Result<bool, AllocError>
+    ensures { IfOk result (λ found. found ≡ declaration_named (sight_from place.now) name.now) }
+{
+    let found = place.visible(alloc, name)?;
+    for id in &found {
+        if !matches!(place.class_of(*id), Class::Library) {
+            return Ok(true);
+        }
+    }
+    Ok(false)
 }
 
 /// Whether a choice is a name that means nothing.
@@ -86,7 +127,7 @@ fn names_nothing(
     let Some(name) = name else {
         return Ok(false);
     };
-    if !place.visible(alloc, name)?.is_empty() {
+    if names_declaration(alloc, place, name)? {
         return Ok(false);
     }
     let element = names_element(alloc, place, name)?;
