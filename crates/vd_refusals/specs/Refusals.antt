@@ -1,13 +1,13 @@
 -- The first name of an expression that is refused by what is visible alone, in the order of the text: 303, where nothing visible has the
 -- name, and 307, where what has it can't stand there. A name is refused at its first token, but for an attribute that its prefix can't
 -- have, which is refused behind the apostrophe. (IEEE 1076, visibility; names)
-use Rattle.std.specs.Prelude.{ℕ, Bool, true, false, List, [], ◌∷◌, Option, Some, None, is_some, if◌then◌else◌}
+use Rattle.std.specs.Prelude.{ℕ, Bool, true, false, List, [], ◌∷◌, Option, Some, None}
 use Rattle.vd_bytes.specs.declared.places.Place.{Place}
 use Rattle.vd_bytes.specs.declared.answers.Refused.{Refused}
 use Rattle.vd_declarations.specs.declared.classes.Class.{Class}
 use Rattle.vd_declarations.specs.declared.classes.Class.TheVariants as class
 use Rattle.vd_finding.specs.Finding.{Finder, first_found}
-use Rattle.vd_forest.specs.Forest.{Forest, nothing, more, text_of, place_of}
+use Rattle.vd_forest.specs.Forest.{Forest, text_of, place_of}
 use Rattle.vd_forms.specs.declared.form.Form.{Form}
 use Rattle.vd_states.specs.declared.states.Want.{Want}
 use Rattle.vd_states.specs.declared.states.Want.TheVariants as want

@@ -3,9 +3,7 @@
 -- resolution would have to find: behind a function, an enumeration literal or an attribute nothing is refused but an attribute that nothing
 -- has, and what can't stand there whatever the name means.
 use Rattle.std.specs.Prelude.{ℕ, ◌==◌, Bool, true, false, ◌||◌, not, List, [], ◌∷◌, Option, Some, None, if◌then◌else◌}
-use Rattle.vd_bytes.specs.declared.places.Place.{Place}
 use Rattle.vd_declarations.specs.declared.classes.Class.{Class}
-use Rattle.vd_declarations.specs.declared.classes.Class.TheVariants as class
 use Rattle.vd_declarations.specs.Classes.{is_overloadable}
 use Rattle.vd_forest.specs.Forest.{Forest, nothing, more, text_of}
 use Rattle.vd_forms.specs.declared.form.Form.{Form}

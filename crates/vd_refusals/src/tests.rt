@@ -4,7 +4,7 @@ use crate::finder::first_refusal;
 use std::alloc::{AllocError, Global};
 use vd_bytes::{Place, Refused};
 use vd_declarations::{RegionId, TypeId};
-use vd_forest::Store;
+use vd_forest::{Cursor, Store};
 use vd_forms::Form;
 use vd_given::given;
 use vd_given::numbers::{INTEGER, REGION_OF_1164};
@@ -22,11 +22,10 @@ fn column(column: u32) -> Place {
     }
 }
 
-/// The refusal of a tree of a store that is wanted as a value or as a discrete range.
+/// The refusal of a tree that is wanted as a value or as a discrete range.
 fn refusal_of(
     alloc: Global,
-    store: &Store<Form>,
-    number: u32,
+    tree: &Cursor<'_, Form>,
     range: bool,
 ) -> Result<Option<Refused>, AllocError> {
     let mut regions = Regions::new(alloc)?;
@@ -40,7 +39,7 @@ fn refusal_of(
     } else {
         Want::Value(integer)
     };
-    first_refusal(&at, alloc, &want, &store.cursor(number))
+    first_refusal(&at, alloc, &want, tree)
 }
 
 fn is_refused(refused: Option<Refused>, rule: u16, at: u32) -> bool {
@@ -50,23 +49,41 @@ fn is_refused(refused: Option<Refused>, rule: u16, at: u32) -> bool {
     }
 }
 
+/// The refusal of a name of one identifier.
+fn refusal_of_name(
+    alloc: Global,
+    text: &[u8],
+    at: u32,
+    range: bool,
+) -> Result<Option<Refused>, AllocError> {
+    let mut store: Store<Form> = Store::new(alloc);
+    let identifier = store.add(Form::Identifier, text, column(at), 0, 0)?;
+    let name = store.add(Form::Name, b"", column(at), identifier, 0)?;
+    refusal_of(alloc, &store.cursor(name), range)
+}
+
 #[test]
 fn names_are_looked_up(rt: HostRuntime) -> Result<(), AllocError> {
+    let alloc = rt.alloc();
+    let unknown = refusal_of_name(alloc, b"nowhere", 3, false)?;
+    assert!(rt; is_refused(unknown, 303, 3));
+    let mark = refusal_of_name(alloc, b"integer", 5, false)?;
+    assert!(rt; is_refused(mark, 307, 5));
+    assert!(rt; refusal_of_name(alloc, b"integer", 5, true)?.is_none());
+    assert!(rt; refusal_of_name(alloc, b"true", 7, false)?.is_none());
+    Ok(())
+}
+
+#[test]
+fn operands_are_looked_up(rt: HostRuntime) -> Result<(), AllocError> {
     let alloc = rt.alloc();
     let mut store: Store<Form> = Store::new(alloc);
     let unknown = store.add(Form::Identifier, b"nowhere", column(3), 0, 0)?;
     let unknown = store.add(Form::Name, b"", column(3), unknown, 0)?;
-    assert!(rt; is_refused(refusal_of(alloc, &store, unknown, false)?, 303, 3));
-    let mark = store.add(Form::Identifier, b"integer", column(5), 0, 0)?;
-    let mark = store.add(Form::Name, b"", column(5), mark, 0)?;
-    assert!(rt; is_refused(refusal_of(alloc, &store, mark, false)?, 307, 5));
-    assert!(rt; refusal_of(alloc, &store, mark, true)?.is_none());
-    let literal = store.add(Form::Identifier, b"true", column(7), 0, 0)?;
-    let literal = store.add(Form::Name, b"", column(7), literal, 0)?;
-    assert!(rt; refusal_of(alloc, &store, literal, false)?.is_none());
     let number = store.add(Form::Number, b"1", column(1), 0, unknown)?;
-    let sum = store.add(Form::Add, b"", column(1), number, 0)?;
-    assert!(rt; is_refused(refusal_of(alloc, &store, sum, false)?, 303, 3));
+    let tree = store.add(Form::Add, b"", column(1), number, 0)?;
+    let refused = refusal_of(alloc, &store.cursor(tree), false)?;
+    assert!(rt; is_refused(refused, 303, 3));
     Ok(())
 }
 
@@ -77,16 +94,33 @@ fn attributes_are_looked_up(rt: HostRuntime) -> Result<(), AllocError> {
     let image = store.add(Form::Identifier, b"image", column(6), 0, 0)?;
     let image = store.add(Form::Attribute, b"", column(5), image, 0)?;
     let time = store.add(Form::Identifier, b"time", column(1), 0, image)?;
-    let time = store.add(Form::Name, b"", column(1), time, 0)?;
-    assert!(rt; is_refused(refusal_of(alloc, &store, time, false)?, 307, 6));
+    let tree = store.add(Form::Name, b"", column(1), time, 0)?;
+    let refused = refusal_of(alloc, &store.cursor(tree), false)?;
+    assert!(rt; is_refused(refused, 307, 6));
+    Ok(())
+}
+
+#[test]
+fn quoted_texts_with_suffixes_are_symbols(rt: HostRuntime) -> Result<(), AllocError> {
+    let alloc = rt.alloc();
+    let mut store: Store<Form> = Store::new(alloc);
     let length = store.add(Form::Identifier, b"length", column(9), 0, 0)?;
     let length = store.add(Form::Attribute, b"", column(8), length, 0)?;
     let quoted = store.add(Form::Quoted, b"01", column(4), 0, length)?;
-    let quoted = store.add(Form::OperatorName, b"", column(4), quoted, 0)?;
-    assert!(rt; is_refused(refusal_of(alloc, &store, quoted, false)?, 303, 4));
+    let tree = store.add(Form::OperatorName, b"", column(4), quoted, 0)?;
+    let refused = refusal_of(alloc, &store.cursor(tree), false)?;
+    assert!(rt; is_refused(refused, 303, 4));
+    Ok(())
+}
+
+#[test]
+fn units_are_looked_up(rt: HostRuntime) -> Result<(), AllocError> {
+    let alloc = rt.alloc();
+    let mut store: Store<Form> = Store::new(alloc);
     let unit = store.add(Form::Identifier, b"boolean", column(3), 0, 0)?;
     let number = store.add(Form::Number, b"5", column(1), 0, unit)?;
-    let delay = store.add(Form::PhysicalLiteral, b"", column(1), number, 0)?;
-    assert!(rt; is_refused(refusal_of(alloc, &store, delay, false)?, 307, 3));
+    let tree = store.add(Form::PhysicalLiteral, b"", column(1), number, 0)?;
+    let refused = refusal_of(alloc, &store.cursor(tree), false)?;
+    assert!(rt; is_refused(refused, 307, 3));
     Ok(())
 }

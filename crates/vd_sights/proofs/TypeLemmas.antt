@@ -1,5 +1,5 @@
 -- Marks and conversions.
-use Rattle.std.proofs.Common.{◌≡◌, ◌<◌, ◌-◌, ◌+◌, ℕ, zero, suc, ◌==◌, refl, sym, ap, ◌∙◌, arith}
+use Rattle.std.proofs.Common.{◌≡◌, ◌<◌, ◌-◌, ℕ, zero, suc, ◌==◌, sym, ap, arith}
 use Rattle.std.specs.Bool.{if◌then◌else◌}
 use Rattle.vd_declarations.specs.declared.classes.Class.TheVariants as class
 use Rattle.vd_given.specs.declared.numbers.TheConstants.{STD_LOGIC_VECTOR}

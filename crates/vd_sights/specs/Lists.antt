@@ -3,7 +3,6 @@
 use Rattle.std.specs.Prelude.{ℕ, suc, ◌==◌, Bool, true, false, ◌&&◌, ◌||◌, not, List, [], ◌∷◌, ◌++◌, length, map, drop, Option, Some, None, option_map, if◌then◌else◌}
 use Rattle.std.specs.List.{filter, list_all, list_any}
 use Rattle.std.specs.Str.{bytes_eq}
-use Rattle.vd_bytes.specs.declared.places.Place.{Place}
 use Rattle.vd_declarations.specs.declared.classes.Class.{Class}
 use Rattle.vd_declarations.specs.declared.classes.Class.TheVariants as class
 use Rattle.vd_forest.specs.Forest.{Forest, nothing, more, skipped}
@@ -16,7 +15,7 @@ use Rattle.vd_states.specs.declared.states.Want.TheVariants as want
 use Rattle.vd_sights.specs.declared.kinds.Kind.TheVariants as kind
 use Rattle.vd_sights.specs.Kinds.{kind_of}
 use Rattle.vd_sights.specs.Sights.{Sight, class_of, mark_of, name_of, parameters_of}
-use Rattle.vd_sights.specs.Types.{common_type, is_record}
+use Rattle.vd_sights.specs.Types.{common_type}
 
 -- ---- names in associations
 

@@ -2,8 +2,8 @@
 -- A state says what is wanted of the trees that stand side by side from a place on. A way says what the first of them gets, which state its
 -- parts have, and which state what stands behind it has. A way looks at a node's form and text and at the forms and texts of its parts,
 -- and never at what these turn out to be.
-use Rattle.std.specs.Prelude.{ℕ, ◌+◌, ◌==◌, Bool, true, false, ◌&&◌, List, [], ◌∷◌, ◌++◌, length, map, position, take, Option, Some, None, codes, slice_get, if◌then◌else◌}
-use Rattle.std.specs.List.{filter, filter_map, list_all}
+use Rattle.std.specs.Prelude.{ℕ, ◌+◌, ◌==◌, Bool, true, false, ◌&&◌, List, [], ◌∷◌, ◌++◌, length, map, position, take, Option, Some, None, slice_get, if◌then◌else◌}
+use Rattle.std.specs.List.{filter, filter_map}
 use Rattle.std.specs.Option.{option_to_list, unwrap_or}
 use Rattle.std.specs.Str.{bytes_eq, str_to_ascii_lowercase}
 use Rattle.vd_declarations.specs.declared.classes.Class.{Class}
@@ -26,7 +26,7 @@ use Rattle.vd_sights.specs.declared.roles.Role.{Role}
 use Rattle.vd_sights.specs.declared.roles.Role.TheVariants as role
 use Rattle.vd_sights.specs.Kinds.{kind_of, symbol_of, attribute_named, role_of}
 use Rattle.vd_sights.specs.Sights.{Sight, class_of, mark_of, name_of, parameters_of}
-use Rattle.vd_sights.specs.Types.{is_some_type, is_discrete, is_scalar, is_record, index_of, element_of, type_meant, position_in, letter_name, spells, sources}
+use Rattle.vd_sights.specs.Types.{is_some_type, is_discrete, is_scalar, index_of, element_of, type_meant, position_in, letter_name, spells, sources}
 use Rattle.vd_sights.specs.Lists.{names_in, only_one, simple_name, fits_call, in_brackets, elements_named, choices_type}
 
 -- ---- ways

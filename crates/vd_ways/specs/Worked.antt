@@ -1,12 +1,12 @@
 -- Some ways, worked out over the given declarations: in the package `std_logic_1164`, with a function f that takes nothing and gives a
 -- STD_ULOGIC_VECTOR.
-use Rattle.std.specs.Prelude.{◌≡◌, ℕ, Bool, true, false, List, [], ◌∷◌, length, map, Option, Some, None, codes}
+use Rattle.std.specs.Prelude.{◌≡◌, ℕ, Bool, true, false, List, [], ◌∷◌, length, map, Option, Some, codes}
 use Rattle.vd_trees.specs.declared.revision.Revision.{Revision}
 use Rattle.vd_trees.specs.declared.revision.Revision.TheVariants.{V2019, V1993}
 use Rattle.vd_declarations.specs.declared.classes.Class.TheVariants as class
-use Rattle.vd_forest.specs.Forest.{Forest, nothing, leaf, no_place}
+use Rattle.vd_forest.specs.Forest.{nothing, leaf, no_place}
 use Rattle.vd_forms.specs.declared.form.Form.TheVariants as form
-use Rattle.vd_given.specs.declared.numbers.TheConstants.{BIT, BIT_VECTOR, STRING, STD_ULOGIC, STD_ULOGIC_VECTOR, STD_LOGIC_VECTOR, INTEGER, REGION_OF_1164}
+use Rattle.vd_given.specs.declared.numbers.TheConstants.{BIT, BIT_VECTOR, STD_ULOGIC, STD_ULOGIC_VECTOR, STD_LOGIC_VECTOR, INTEGER, REGION_OF_1164}
 use Rattle.vd_given.specs.Entries.{declared, with_entry}
 use Rattle.vd_given.specs.Given.{given_scopes}
 use Rattle.vd_regions.specs.Scopes.{Scopes, declaration_at}
@@ -17,7 +17,7 @@ use Rattle.vd_states.specs.declared.states.Prefix.TheVariants as prefix
 use Rattle.vd_states.specs.declared.ways.Way.{Way}
 use Rattle.vd_sights.specs.Sights.{Sight}
 use Rattle.vd_sights.specs.Types.{spells, sources}
-use Rattle.vd_ways.specs.Ways.{ways, chosen, typed}
+use Rattle.vd_ways.specs.Ways.{ways}
 
 -- f has the number behind all given declarations
 abbrev pub scopes_with_f : Revision → Scopes

@@ -3,7 +3,7 @@
 use crate::setting::{ends_in, ways_in};
 use std::alloc::{AllocError, Global};
 use vd_bytes::Place;
-use vd_declarations::{DeclId, RegionId, TypeId};
+use vd_declarations::{RegionId, TypeId};
 use vd_forest::Store;
 use vd_forms::Form;
 use vd_given::given;
@@ -79,29 +79,40 @@ fn names_and_conversions(rt: HostRuntime) -> Result<(), AllocError> {
     let types = all_types(alloc, &regions)?;
     let region = RegionId::of(REGION_OF_1164);
     let at = Surroundings::of(Revision::V1993, &regions, region, &types);
-    let goal = Want::Value(TypeId::of(STD_LOGIC_VECTOR));
-    let head = State::Head { goal };
-    let mark = ways_of_leaf(alloc, &at, &head, Form::Identifier, b"std_logic_vector")?;
+    let mark = ways_of_leaf(
+        alloc,
+        &at,
+        &head(STD_LOGIC_VECTOR),
+        Form::Identifier,
+        b"std_logic_vector",
+    )?;
     assert_eq!(rt; mark.len(), 1);
     let converted = ways_of_leaf(alloc, &at, &mark[0].after, Form::Arguments, b"")?;
     assert_eq!(rt; converted.len(), 2);
     assert!(rt; ends_in(&at, &converted[0].after));
     assert!(rt; !ends_in(&at, &mark[0].after));
-    let array = State::Suffixes {
-        prefix: Prefix::Valued {
-            mark: TypeId::of(STD_LOGIC_VECTOR),
-            signal: true,
-        },
-        goal,
-    };
+    let array = signal(STD_LOGIC_VECTOR);
     let parts = ways_of_leaf(alloc, &at, &array, Form::Arguments, b"")?;
     assert_eq!(rt; parts.len(), 2);
     let range = ways_of_leaf(alloc, &at, &array, Form::RangeAttribute, b"")?;
     assert_eq!(rt; range.len(), 1);
-    let function = State::Arguments {
-        function: DeclId::of(0),
-        index: 0,
-    };
-    assert!(rt; ends_in(&at, &function));
     Ok(())
+}
+
+/// A name that is wanted as a value of a type.
+fn head(number: u32) -> State {
+    State::Head {
+        goal: Want::Value(TypeId::of(number)),
+    }
+}
+
+/// What stands behind a signal of a type that is wanted as a value of it.
+fn signal(number: u32) -> State {
+    State::Suffixes {
+        prefix: Prefix::Valued {
+            mark: TypeId::of(number),
+            signal: true,
+        },
+        goal: Want::Value(TypeId::of(number)),
+    }
 }

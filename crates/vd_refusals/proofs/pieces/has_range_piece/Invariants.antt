@@ -1,5 +1,5 @@
 use Rattle.std.proofs.Common.{◌≡◌}
-use Rattle.vd_refusals.specs.Seen.{has_range_piece, path_from, path_seen, pieces_seen, name_seen}
+use Rattle.vd_refusals.specs.Seen.{has_range_piece}
 use Rattle.vd_forest.specs.Forest.{size}
 use Rattle.vd_refusals.proofs.pieces.has_range_piece.Given as goal
 

@@ -1,5 +1,5 @@
 use Rattle.std.proofs.Common.{◌≡◌, drop}
-use Rattle.std.specs.List.{list_all, list_any, filter}
+use Rattle.std.specs.List.{list_all}
 use Rattle.vd_sights.specs.Types.{is_some_type}
 use Rattle.vd_sights.proofs.calls.common_type.Given as goal
 

@@ -1,6 +1,6 @@
 use Rattle.std.proofs.Common.{◌≡◌}
-use Rattle.std.specs.List.{list_all, list_any, filter}
-use Rattle.vd_sights.specs.Lists.{is_name, formals, chosen_names, are_given, left_elements, is_element, chosen_mark, choice_names, names_in}
+use Rattle.std.specs.List.{list_any}
+use Rattle.vd_sights.specs.Lists.{is_name, chosen_names}
 use Rattle.vd_forest.specs.Forest.{size}
 use Rattle.vd_sights.proofs.calls.is_chosen.Given as goal
 

@@ -1,7 +1,7 @@
 use Rattle.std.proofs.Common.{◌≡◌}
-use Rattle.std.specs.List.{list_all, list_any}
+use Rattle.std.specs.List.{list_any}
 use Rattle.vd_forms.specs.Validity.{forms_of}
-use Rattle.vd_sights.specs.Lists.{is_others, is_association, is_name, positional, choice_names}
+use Rattle.vd_sights.specs.Lists.{is_others}
 use Rattle.vd_forest.specs.Forest.{size}
 use Rattle.vd_sights.proofs.lists.has_others.Given as goal
 

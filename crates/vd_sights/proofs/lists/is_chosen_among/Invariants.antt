@@ -1,6 +1,6 @@
 use Rattle.std.proofs.Common.{◌≡◌}
-use Rattle.std.specs.List.{list_all, list_any}
-use Rattle.vd_sights.specs.Lists.{is_others, is_association, is_name, positional, choice_names}
+use Rattle.std.specs.List.{list_any}
+use Rattle.vd_sights.specs.Lists.{is_name, choice_names}
 use Rattle.vd_forest.specs.Forest.{size}
 use Rattle.vd_sights.proofs.lists.is_chosen_among.Given as goal
 

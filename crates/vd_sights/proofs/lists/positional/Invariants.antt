@@ -1,5 +1,5 @@
 use Rattle.std.proofs.Common.{◌≡◌, ◌+◌}
-use Rattle.vd_sights.specs.Lists.{is_others, is_association, is_name, positional, choice_names}
+use Rattle.vd_sights.specs.Lists.{positional}
 use Rattle.vd_forest.specs.Forest.{size}
 use Rattle.vd_sights.proofs.lists.positional.Given as goal
 

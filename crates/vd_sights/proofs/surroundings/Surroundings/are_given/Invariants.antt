@@ -1,6 +1,6 @@
 use Rattle.std.proofs.Common.{◌≡◌, drop}
-use Rattle.vd_sights.specs.Lists.{is_name, formals, chosen_names, are_given, left_elements, is_element, chosen_mark, choice_names, names_in}
-use Rattle.vd_sights.specs.Sights.{sight_from, class_of, mark_of, name_of}
+use Rattle.vd_sights.specs.Lists.{formals, are_given}
+use Rattle.vd_sights.specs.Sights.{sight_from}
 use Rattle.vd_sights.proofs.surroundings.Surroundings.are_given.Given as goal
 
 abbrev pub invariant-loop-parameter : goal.invariant-loop-parameter

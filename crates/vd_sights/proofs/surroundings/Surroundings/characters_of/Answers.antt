@@ -1,8 +1,8 @@
-use Rattle.std.proofs.Common.{sym, ap, subst, ◌∙◌, arith, rules, false, ◌||◌, [], ◌∷◌, get_or, ◌+◌, ◌<◌, ◌≡◌}
+use Rattle.std.proofs.Common.{sym, ap, subst, ◌∙◌, arith, rules, false, ◌||◌, [], ◌∷◌, get_or, ◌+◌, ◌≡◌}
 use Rattle.std.specs.Str.{bytes_eq}
 use Rattle.vd_sights.specs.Sights.{sight_from, name_of}
 use Rattle.vd_sights.specs.Types.{is_literal_of, letter_name}
-use Rattle.vd_sights.proofs.CharacterLemmas.{AreMarked, none_marked, one_more_marked, all_marked, all_passed}
+use Rattle.vd_sights.proofs.CharacterLemmas.{AreMarked, none_marked, one_more_marked, all_marked}
 use Rattle.vd_sights.proofs.surroundings.Surroundings.characters_of.Goals as goal
 
 pub loop-next-init : goal.loop-next-init

@@ -1,6 +1,6 @@
 use Rattle.std.proofs.Common.{◌≡◌, ◌++◌, map}
-use Rattle.vd_sights.specs.Lists.{is_name, formals, chosen_names, are_given, left_elements, is_element, chosen_mark, choice_names, names_in}
-use Rattle.vd_sights.specs.Sights.{sight_from, class_of, mark_of, name_of}
+use Rattle.vd_sights.specs.Lists.{chosen_mark, choice_names, names_in}
+use Rattle.vd_sights.specs.Sights.{sight_from}
 use Rattle.vd_forest.specs.Forest.{size}
 use Rattle.vd_sights.proofs.surroundings.Surroundings.choices_type.Given as goal
 

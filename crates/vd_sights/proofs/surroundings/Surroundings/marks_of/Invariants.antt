@@ -1,5 +1,5 @@
 use Rattle.std.proofs.Common.{◌≡◌, ◌++◌, drop, map}
-use Rattle.vd_sights.specs.Sights.{sight_from, class_of, mark_of, name_of}
+use Rattle.vd_sights.specs.Sights.{sight_from, mark_of}
 use Rattle.vd_sights.proofs.surroundings.Surroundings.marks_of.Given as goal
 
 abbrev pub invariant-loop-id : goal.invariant-loop-id
