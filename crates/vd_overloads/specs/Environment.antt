@@ -65,10 +65,11 @@ choices_in around.Anything = around.Choices
 abbrev pub down_from : Around → Form → Around
 down_from a form =
     elim (kind_of form) [
-      kind.Arguments ↦ around.Arguments
-    | kind.Association ↦ a
-    | kind.AssociationChoices ↦ choices_in a
-    | _ ↦ around.Anything ]
+      | kind.Arguments ↦ around.Arguments
+      | kind.Association ↦ a
+      | kind.AssociationChoices ↦ choices_in a
+      | _ ↦ around.Anything
+    ]
 
 abbrev pub are_choices : Around → Bool
 are_choices around.Choices = true

@@ -34,7 +34,9 @@ impl<'a> Finding<Form, Around, Place> for Choices<'a> {
         state: &Around,
         node: &Opened<'_, Form>,
     ) -> Result<Option<Place>, AllocError> {
-        if are_choices(*state) && names_nothing(alloc, self.place, simple_name(node.form, &node.parts))? {
+        if are_choices(*state)
+            && names_nothing(alloc, self.place, simple_name(node.form, &node.parts))?
+        {
             return Ok(Some(node.place));
         }
         Ok(None)
