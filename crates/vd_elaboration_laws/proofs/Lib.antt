@@ -6,3 +6,4 @@ pub mod Facing
 pub mod Cases
 pub mod Trees
 pub mod Designs
+pub mod Behind

@@ -1,6 +1,6 @@
 -- What holds of elaborations.
-use Rattle.std.specs.Prelude.{◌≡◌, ℕ, List, map}
-use Rattle.std.specs.List.{AllZip}
+use Rattle.std.specs.Prelude.{◌≡◌, ◌≤◌, ℕ, List, ◌++◌, map, length}
+use Rattle.std.specs.List.{All, AllZip}
 use Rattle.vd_values.specs.declared.scalar.Scalar.{Scalar}
 use Rattle.vd_bytes.specs.declared.places.Place.{Place}
 use Rattle.vd_trees.specs.declared.revision.Revision.{Revision}
@@ -11,7 +11,9 @@ use Rattle.vd_kernel.specs.Correspondence.{SameRun}
 use Rattle.vd_composites.specs.Composites.{Value}
 use Rattle.vd_resolved.specs.declared.node.Resolved.{Resolved}
 use Rattle.vd_resolved.specs.Trees.{ResolvedTree}
-use Rattle.vd_meaning.specs.Tables.{Table, table}
+use Rattle.vd_resolved.specs.Validity.{IsOwn, IsResolved}
+use Rattle.vd_declarations.specs.declared.declarations.Declaration.{Declaration}
+use Rattle.vd_meaning.specs.Tables.{Table, given_count, table}
 use Rattle.vd_elaboration.specs.Building.{Made}
 use Rattle.vd_elaboration.specs.Facets.{Part}
 use Rattle.vd_elaboration.specs.Parts.{node_part, parts}
@@ -82,3 +84,11 @@ DesignsHaveOneText = (l : Link) → IsApart l → (m n : Made) → AlikeMade l m
 -- Elaborations that are alike have one trace, also where they stop.
 abbrev pub ElaborationsHaveOneTrace : Type 0
 ElaborationsHaveOneTrace = (l : Link) → IsApart l → (x y : Elaboration) → AlikeElaborations l x y → (given : Stimulus) (cycles : ℕ) → trace_of_top y given cycles ≡ trace_of_top x given cycles
+
+-- ---- what isn't named
+
+-- Declarations that stand behind those of a tree, and that it therefore doesn't name, change nothing: each top has the trace that it had.
+abbrev pub DeclarationsBehindKeepTraces : Type 0
+DeclarationsBehindKeepTraces = (r : Revision) (tree : ResolvedTree) (new : List Declaration) → IsResolved r tree → given_count r ≤ length tree.declarations
+    → (top : Top) → All (λ g. IsOwn tree.declarations g.0) top.generics → (given : Stimulus) (cycles : ℕ)
+    → trace_of_top (elaboration r (record tree { declarations = tree.declarations ++ new }) top) given cycles ≡ trace_of_top (elaboration r tree top) given cycles

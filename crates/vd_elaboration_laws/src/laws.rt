@@ -1,6 +1,6 @@
 //! Laws of the definitions, each the contract of a function that does nothing.
 
-ghost use Rattle.vd_elaboration_laws.specs.Laws.{PartNodesAlike, PartTreesAlike, UnitsElaborateAlike, TreesElaborateAlike, DesignsRunAlike, DesignsHaveOneTrace, DesignsHaveOneText, ElaborationsHaveOneTrace};
+ghost use Rattle.vd_elaboration_laws.specs.Laws.{PartNodesAlike, PartTreesAlike, UnitsElaborateAlike, TreesElaborateAlike, DesignsRunAlike, DesignsHaveOneTrace, DesignsHaveOneText, ElaborationsHaveOneTrace, DeclarationsBehindKeepTraces};
 
 /// With other numbers for its declarations a node comes to the same in elaboration where its parts do, and so does a tree.
 pub fn renumbered_parts_are_alike()
@@ -20,4 +20,9 @@ pub fn alike_designs_run_alike()
     ensures traces { DesignsHaveOneTrace }
     ensures texts { DesignsHaveOneText }
     ensures elaborations { ElaborationsHaveOneTrace }
+{}
+
+/// Declarations behind those of a resolved tree keep the trace of each top.
+pub fn declarations_behind_keep_traces()
+    ensures { DeclarationsBehindKeepTraces }
 {}

@@ -223,10 +223,13 @@ of_two _ l r = NoOperation
 abbrev pub operand_kind : Option ℕ → Option ℕ → OperandKind
 operand_kind result operand = if same_type result operand then WholeArray else OneElement
 
+abbrev pub of_pair : Symbol → OperandKind → OperandKind → Sort → Sort → Operation
+of_pair JoinSymbol left right l r = Join left right
+of_pair s left right l r = of_two s l r
+
 abbrev pub of_operands : Table → Symbol → Option ℕ → List (Option ℕ) → Operation
-of_operands t JoinSymbol result (l ∷ r ∷ []) = Join (operand_kind result l) (operand_kind result r)
 of_operands t s result (x ∷ []) = of_one s (sort_of t x)
-of_operands t s result (l ∷ r ∷ []) = of_two s (sort_of t l) (sort_of t r)
+of_operands t s result (l ∷ r ∷ []) = of_pair s (operand_kind result l) (operand_kind result r) (sort_of t l) (sort_of t r)
 of_operands t s result _ = NoOperation
 
 -- what an operator or a given function does

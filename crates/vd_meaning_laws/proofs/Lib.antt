@@ -11,3 +11,4 @@ pub mod Facing
 pub mod Nodes
 pub mod Cases
 pub mod Elaborating
+pub mod Appending

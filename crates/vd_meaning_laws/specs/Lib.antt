@@ -1,3 +1,4 @@
 pub mod Agreement
 pub mod Renumbering
 pub mod Laws
+pub mod Appending

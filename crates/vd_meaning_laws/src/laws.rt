@@ -2,6 +2,7 @@
 
 ghost use Rattle.vd_meaning_laws.specs.Laws.{KeptNodesKeepTrees, NodesAlike, AlikeProcessesRunAlike, ProcessesElaborateAlike};
 ghost use Rattle.vd_meaning_laws.specs.Renumbering.{TreesAlike};
+ghost use Rattle.vd_meaning_laws.specs.Appending.{AppendedIsApart, AppendedTablesAreSame, OwnNodesStay, OwnTreesStay, OwnTreesMeanTheSame};
 
 /// A pass that keeps the meaning of each node keeps that of each tree.
 pub fn kept_nodes_keep_trees()
@@ -22,4 +23,13 @@ pub fn alike_processes_elaborate_alike()
 /// Designs whose processes do the same have the same run.
 pub fn alike_processes_run_alike()
     ensures { AlikeProcessesRunAlike }
+{}
+
+/// Declarations behind those of a tree change nothing for what doesn't name them: a pass may declare what it needs.
+pub fn declarations_behind_change_nothing()
+    ensures numbers { AppendedIsApart }
+    ensures tables { AppendedTablesAreSame }
+    ensures nodes { OwnNodesStay }
+    ensures trees { OwnTreesStay }
+    ensures meanings { OwnTreesMeanTheSame }
 {}
