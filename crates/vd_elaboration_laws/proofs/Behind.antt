@@ -19,7 +19,7 @@ use Rattle.vd_elaboration_laws.proofs.Designs.{top_traces}
 
 -- ---- the given marks are among the first declarations
 
-are_small : List (ℕ × Indicated) → Bool
+abbrev are_small : List (ℕ × Indicated) → Bool
 are_small [] = true
 are_small (m ∷ ms) = nat_lt m.0 387 && are_small ms
 
