@@ -10,6 +10,3 @@ mod spots;
 pub use finder::first_refusal;
 pub use seen::Seen;
 pub use spots::{Need, Spot};
-
-#[cfg(test)]
-mod tests;

@@ -17,6 +17,3 @@ pub use brackets::Brackets;
 pub use kinds::Kind;
 pub use roles::Role;
 pub use surroundings::Surroundings;
-
-#[cfg(test)]
-mod tests;

@@ -12,6 +12,3 @@ mod values;
 mod wanted;
 
 pub use setting::{ends_in, ways_in};
-
-#[cfg(test)]
-mod tests;
