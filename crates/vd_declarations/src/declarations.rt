@@ -50,8 +50,11 @@ pub struct Declaration {
     /// The type of an object, a parameter or a record element, that of which a subtype is one, or
     /// the result of a function or an enumeration literal. A type has none.
     pub mark: Option<TypeId>,
-    /// The parameters of a function, or the elements of a record type, in their order.
+    /// The parameters of a function, the elements of a record type, the ports of an entity, or what a package with generics
+    /// and an instance of it declare besides their generics, in their order.
     pub parameters: Declarations,
+    /// The generics of an entity, of a package or function with generics, or of an instance of one, in their order.
+    pub generics: Declarations,
     /// The region of a library, a unit, a function or a record type.
     pub inside: Option<RegionId>,
     /// Where it stands. What is given stands nowhere in a file, and has the first place.

@@ -1,5 +1,5 @@
 -- A design that is being elaborated: what it has so far, and how signals and processes are added. (IEEE 1076, elaboration of a design hierarchy.)
-use Rattle.std.specs.Prelude.{ℕ, suc, ◌+◌, nat_lt, ◌==◌, Bool, true, false, List, [], ◌∷◌, ◌++◌, map, length, Option, Some, None, Result, Ok, Err, slice_index_or, if◌then◌else◌}
+use Rattle.std.specs.Prelude.{ℕ, suc, ◌+◌, nat_lt, ◌==◌, Bool, true, false, not, ◌||◌, List, [], ◌∷◌, ◌++◌, map, length, Option, Some, None, Result, Ok, Err, slice_get, slice_index_or, if◌then◌else◌}
 use Rattle.vd_bytes.specs.declared.answers.Limit.{Limit}
 use Rattle.vd_bytes.specs.declared.answers.Limit.TheVariants as limit
 use Rattle.vd_values.specs.declared.scalar.Scalar.{Scalar}
@@ -9,10 +9,11 @@ use Rattle.vd_trees.specs.declared.paths.PathStep.{PathStep}
 use Rattle.vd_trees.specs.declared.paths.Label.{Label}
 use Rattle.vd_trees.specs.declared.paths.Scope.{Scope}
 use Rattle.vd_composites.specs.declared.scalars.ScalarType.{ScalarType}
+use Rattle.vd_composites.specs.declared.scalars.ScalarType.TheVariants.{Integers, Enumeration, Times}
 use Rattle.vd_composites.specs.Stops.{◌>>=◌}
 use Rattle.vd_composites.specs.Composites.{Value, leaves}
-use Rattle.vd_environments.specs.Got.{Halt, Got}
-use Rattle.vd_environments.specs.Environments.{ScalarMake, Signals, Env, Indicated, with_signals, seeing}
+use Rattle.vd_environments.specs.Got.{Halt, Got, senseless}
+use Rattle.vd_environments.specs.Environments.{ScalarMake, ScalarSignal, Signals, of_the_type, Env, Indicated, with_signals, seeing}
 use Rattle.vd_environments.specs.Processes.{Process, Running, Elaborated, elaborated}
 use Rattle.vd_meaning.specs.Given.{elaborating}
 use Rattle.vd_elaboration.specs.Layouts.{Leaf, layout, numbered}
@@ -109,7 +110,35 @@ layout_of i = layout i.subtype i.make []
 abbrev pub size_of_object : Indicated → ℕ
 size_of_object i = length (leaves (layout_of i))
 
+-- ---- what objects begin with: a value for each scalar signal, of its type. Signals that are resolved are of STD_ULOGIC
+
+abbrev pub same_scalar_type : ScalarType → ScalarType → Bool
+same_scalar_type Integers Integers = true
+same_scalar_type Times Times = true
+same_scalar_type (Enumeration m) (Enumeration n) = m == n
+same_scalar_type _ _ = false
+
+abbrev pub first_value : Leaf → Scalar → Got Scalar
+first_value leaf x =
+    if not leaf.make.is_resolved || same_scalar_type leaf.of_type (Enumeration 9) then of_the_type leaf.of_type x else senseless
+
+abbrev pub first_values : List Leaf → List Scalar → Got (List Scalar)
+first_values [] [] = Ok []
+first_values (leaf ∷ rest) (x ∷ xs) = first_value leaf x >>= λ y. first_values rest xs >>= λ ys. Ok (y ∷ ys)
+first_values _ _ = senseless
+
+abbrev pub first_of_object : Indicated → Value Scalar → Got (Value Scalar)
+first_of_object i v = first_values (leaves (layout_of i)) (leaves v) >>= λ xs. Ok v
+
 -- ---- signals
+
+-- whether a scalar signal is one of these, of such a type
+abbrev pub is_such : Option ScalarObject → ScalarType → Bool
+is_such None t = false
+is_such (Some o) t = same_scalar_type o.of_type t
+
+abbrev pub is_among : List ScalarObject → ScalarSignal → Bool
+is_among signals x = is_such (slice_get signals x.number) x.of_type
 
 -- what a scalar of an object begins with and shows, its mode and its actual
 pub record Start : Type 0 where

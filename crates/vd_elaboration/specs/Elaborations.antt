@@ -19,15 +19,19 @@ use Rattle.vd_composites.specs.declared.scalars.ScalarType.TheVariants as scalar
 use Rattle.vd_composites.specs.Stops.{◌>>=◌}
 use Rattle.vd_composites.specs.Composites.{Value}
 use Rattle.vd_resolved.specs.Trees.{ResolvedTree}
-use Rattle.vd_environments.specs.Got.{Halt}
-use Rattle.vd_environments.specs.Processes.{Running, step}
+use Rattle.vd_environments.specs.Got.{Halt, Got, senseless}
+use Rattle.vd_environments.specs.Environments.{Env}
+use Rattle.vd_environments.specs.Commands.{Command}
+use Rattle.vd_environments.specs.Processes.{Running, step, declared}
 use Rattle.vd_meaning.specs.Tables.{table}
 use Rattle.vd_meaning.specs.Facets.{no_meaning}
+use Rattle.vd_meaning.specs.Brackets.{or_else}
+use Rattle.vd_meaning.specs.Generics.{with_generics, taken}
 use Rattle.vd_meaning.specs.Given.{given_env}
-use Rattle.vd_elaboration.specs.Building.{Mode, Input, BothWays, is_output, ScalarObject, PortSource, Placed, Made, nothing_made, Failing, Stopped, Limited, Built, State}
-use Rattle.vd_elaboration.specs.Facets.{View, Actual, Instance, Hierarchy, Unit', EntityUnit, ArchitectureUnit, PackageUnit, gathered}
+use Rattle.vd_elaboration.specs.Building.{Mode, Input, BothWays, is_output, ScalarObject, PortSource, Placed, Made, nothing_made, Failing, Stopped, Limited, Built, evaluated, State}
+use Rattle.vd_elaboration.specs.Facets.{ElementMode, ByMode, ByView, ViewElement, View, Actual, Instance, Hierarchy, PackageSort, PlainPackage, GenericPackage, BodyOfPackage, InstanceOfPackage, PackageText, Unit', EntityUnit, ArchitectureUnit, PackageUnit, gathered}
 use Rattle.vd_elaboration.specs.Hierarchies.{EntityText, ArchitectureText, entity_in, architecture_in, hierarchy, entity_elaborated}
-use Rattle.vd_elaboration.specs.Parts.{parts}
+use Rattle.vd_elaboration.specs.Parts.{with_environment, parts}
 
 -- ---- tops
 
@@ -42,11 +46,56 @@ pub record Top : Type 0 where
 abbrev pub package_scope : List ℕ → Scope
 package_scope name = record { levels = []; generates = []; unit = name }
 
-abbrev pub with_packages : Hierarchy → List Unit' → State → Built State
-with_packages h [] s = Ok s
-with_packages h (PackageUnit name declaring ∷ us) s = declaring h (package_scope name) s >>= with_packages h us
-with_packages h (EntityUnit name generics ports ∷ us) s = with_packages h us s
-with_packages h (ArchitectureUnit name entity region ∷ us) s = with_packages h us s
+-- a package with generics and its body, among the units that are analysed
+abbrev pub is_generic : PackageSort → Bool
+is_generic GenericPackage = true
+is_generic _ = false
+
+abbrev pub is_body : PackageSort → Bool
+is_body BodyOfPackage = true
+is_body _ = false
+
+abbrev pub package_in : (PackageSort → Bool) → Option PackageText → List Unit' → ℕ → Option PackageText
+package_in is found [] n = found
+package_in is found (PackageUnit p ∷ us) n = package_in is (if is p.sort && (p.number == n) then Some p else found) us n
+package_in is found (EntityUnit name generics ports ∷ us) n = package_in is found us n
+package_in is found (ArchitectureUnit name entity region ∷ us) n = package_in is found us n
+
+abbrev pub declarations_of : Option PackageText → List Command
+declarations_of None = []
+declarations_of (Some p) = p.declarations
+
+-- An instance: the generics stand for their actuals, then come the declarations of the package, then those of its body, if that is analysed.
+abbrev pub instance_declared : PackageText → Option PackageText → PackageText → Env → Got Env
+instance_declared original body p e =
+    with_generics original.generics (p.actuals e) e >>= declared original.declarations >>= declared (declarations_of body) >>= λ f. Ok (taken p.copies f e)
+
+abbrev pub instance_elaborated : Option PackageText → Option PackageText → PackageText → State → Built State
+instance_elaborated None body p s = evaluated (package_scope p.name) senseless
+instance_elaborated (Some original) body p s =
+    evaluated (package_scope p.name) (instance_declared original body p s.env) >>= λ e. Ok (with_environment s e)
+
+-- A package with generics, and its body, are evaluated at the instances alone.
+abbrev pub unless_generic : Option PackageText → Hierarchy → PackageText → State → Built State
+unless_generic None h p s = p.declaring h (package_scope p.name) s
+unless_generic (Some original) h p s = Ok s
+
+abbrev pub elaborated_by : PackageSort → Hierarchy → List Unit' → PackageText → State → Built State
+elaborated_by PlainPackage h before p s = p.declaring h (package_scope p.name) s
+elaborated_by GenericPackage h before p s = Ok s
+elaborated_by BodyOfPackage h before p s = unless_generic (package_in is_generic None before p.number) h p s
+elaborated_by InstanceOfPackage h before p s =
+    instance_elaborated (package_in is_generic None before p.number) (package_in is_body None before p.number) p s
+
+abbrev pub package_elaborated : Hierarchy → List Unit' → PackageText → State → Built State
+package_elaborated h before p s = elaborated_by p.sort h before p s
+
+abbrev pub with_packages : Hierarchy → List Unit' → List Unit' → State → Built State
+with_packages h before [] s = Ok s
+with_packages h before (PackageUnit p ∷ us) s =
+    package_elaborated h before p s >>= with_packages h (before ++ PackageUnit p ∷ []) us
+with_packages h before (EntityUnit name generics ports ∷ us) s = with_packages h before us s
+with_packages h before (ArchitectureUnit name entity region ∷ us) s = with_packages h before us s
 
 -- ---- the top: an instance that nothing is associated with
 
@@ -81,9 +130,42 @@ pub record Units : Type 0 where
   pub units : List Unit'
   pub views : List View
 
+-- Each view that a package with generics declares is one of each instance of it too, where it is of the record type of that instance.
+abbrev pub copied : List (ℕ × ℕ) → ℕ → Option ℕ
+copied [] n = None
+copied (c ∷ cs) n = if c.0 == n then Some c.1 else copied cs n
+
+abbrev pub number_as : List (ℕ × ℕ) → Option ℕ → Option ℕ
+number_as cs None = None
+number_as cs (Some n) = or_else (copied cs n) (Some n)
+
+abbrev pub mode_as : List (ℕ × ℕ) → ElementMode → ElementMode
+mode_as cs (ByMode mode) = ByMode mode
+mode_as cs (ByView view is_converse) = ByView (number_as cs view) is_converse
+
+abbrev pub element_as : List (ℕ × ℕ) → ViewElement → ViewElement
+element_as cs x = record x { mode = mode_as cs x.mode }
+
+abbrev pub view_as : List (ℕ × ℕ) → View → Option ℕ → List View
+view_as cs v None = []
+view_as cs v (Some copy) = record { view = copy; mark = number_as cs v.mark; elements = map (element_as cs) v.elements } ∷ []
+
+abbrev pub views_as : List (ℕ × ℕ) → List View → List View
+views_as cs [] = []
+views_as cs (v ∷ vs) = view_as cs v (copied cs v.view) ++ views_as cs vs
+
+abbrev pub views_of_instances : List Unit' → List View → List View
+views_of_instances [] vs = []
+views_of_instances (PackageUnit p ∷ us) vs = views_as p.copies vs ++ views_of_instances us vs
+views_of_instances (EntityUnit name generics ports ∷ us) vs = views_of_instances us vs
+views_of_instances (ArchitectureUnit name entity region ∷ us) vs = views_of_instances us vs
+
+abbrev pub with_views : List Unit' → List View → Units
+with_views us vs = record { units = us; views = vs ++ views_of_instances us vs }
+
 abbrev pub units_of : Revision → ResolvedTree → Units
 units_of r tree =
-    let ps = parts (table r tree.declarations) tree.units in record { units = gathered (λ p. p.units) ps; views = gathered (λ p. p.views) ps }
+    let ps = parts (table r tree.declarations) tree.units in with_views (gathered (λ p. p.units) ps) (gathered (λ p. p.views) ps)
 
 -- 64 instances may stand inside one another
 abbrev pub hierarchy_of : Units → Hierarchy
@@ -94,7 +176,7 @@ beginning = record { env = given_env (λ _. Literal 0); made = nothing_made }
 
 abbrev pub elaborated_with : Units → Top → Option EntityText → Option ArchitectureText → Elaboration
 elaborated_with u top (Some entity) (Some architecture) =
-    of_built (with_packages (hierarchy_of u) u.units beginning >>= top_elaborated u.views (hierarchy_of u) top entity architecture)
+    of_built (with_packages (hierarchy_of u) [] u.units beginning >>= top_elaborated u.views (hierarchy_of u) top entity architecture)
 elaborated_with u top _ _ = NoTop
 
 abbrev pub elaborated_units : Units → Top → Elaboration

@@ -5,8 +5,9 @@ use Rattle.vd_trees.specs.declared.paths.Scope.{Scope}
 use Rattle.vd_composites.specs.Stops.{◌>>=◌}
 use Rattle.vd_composites.specs.Composites.{Value}
 use Rattle.vd_environments.specs.Got.{Got}
-use Rattle.vd_environments.specs.Environments.{Env}
-use Rattle.vd_meaning.specs.Facets.{Meaning, no_meaning, Objects}
+use Rattle.vd_environments.specs.Environments.{GenericActual, Env}
+use Rattle.vd_environments.specs.Commands.{Command}
+use Rattle.vd_meaning.specs.Facets.{Meaning, no_meaning, Objects, Formal}
 use Rattle.vd_elaboration.specs.Building.{Mode, Input, Built, State}
 
 -- ---- interfaces
@@ -35,6 +36,11 @@ pub record Ports : Type 0 where
   pub has_subtype : Bool
   pub named : List ℕ
   pub mode : ElementMode
+
+-- the generics of an entity, and what the default of each names
+pub record Generics : Type 0 where
+  pub objects : List Objects
+  pub defaults : List (List ℕ)
 
 -- an actual of a map: the formal that it names, and what it is
 pub record Actual : Type 0 where
@@ -68,11 +74,30 @@ one_after_other (f ∷ fs) h scope s = f h scope s >>= one_after_other fs h scop
 
 -- ---- design units, in the order of analysis
 
+-- a package without generics, one with generics, a body of either, an instance
+pub data PackageSort : Type 0 where
+  PlainPackage : PackageSort
+  GenericPackage : PackageSort
+  BodyOfPackage : PackageSort
+  InstanceOfPackage : PackageSort
+
+pub record PackageText : Type 0 where
+  pub sort : PackageSort
+  pub name : List ℕ
+  -- the declaration of the package itself, of that of which this is the body, or of that of which it is an instance
+  pub number : ℕ
+  pub generics : List Formal
+  -- what it declares, where it has no generics, and where generics stand for their actuals
+  pub declaring : Elaborating
+  pub declarations : List Command
+  -- of an instance: its actuals, and which of its declarations stands for which of the package
+  pub actuals : Env → List GenericActual
+  pub copies : List (ℕ × ℕ)
+
 pub data Unit' : Type 0 where
-  EntityUnit : (name : List ℕ) (generics : List Objects) (ports : List Ports) → Unit'
+  EntityUnit : (name : List ℕ) (generics : Generics) (ports : List Ports) → Unit'
   ArchitectureUnit : (name entity : List ℕ) (region : Elaborating) → Unit'
-  -- a package declaration without generics, or a package body
-  PackageUnit : (name : List ℕ) (declaring : Elaborating) → Unit'
+  PackageUnit : (text : PackageText) → Unit'
 
 -- ---- facets
 
@@ -86,6 +111,8 @@ pub record Part : Type 0 where
   pub elements : List ViewElement
   pub views : List View
   pub ports : List Ports
+  -- of generics, declaration by declaration, what their default names
+  pub defaults : List (List ℕ)
   pub actuals : List Actual
   -- of a declaration, and of a region
   pub declaring : Elaborating
@@ -108,6 +135,7 @@ of_meaning m =
       elements = [];
       views = [];
       ports = [];
+      defaults = [];
       actuals = [];
       declaring = nothing_to_do;
       region = nothing_to_do;

@@ -5,9 +5,12 @@ use Rattle.vd_values.specs.declared.scalar.Scalar.{Scalar}
 use Rattle.vd_values.specs.declared.scalar.StopKind.TheVariants.{Range, Length}
 use Rattle.vd_trees.specs.declared.paths.Scope.{Scope}
 use Rattle.vd_kernel.specs.declared.assignments.Delay.TheVariants.{Inertial}
+use Rattle.vd_composites.specs.declared.ranges.Bounds.{Bounds}
 use Rattle.vd_composites.specs.Stops.{◌>>=◌}
-use Rattle.vd_composites.specs.Ranges.{low_of, high_of}
-use Rattle.vd_composites.specs.Composites.{Value, Items, item, leaves, Fields}
+use Rattle.vd_composites.specs.Ranges.{length_of}
+use Rattle.vd_operators.specs.Attributes.{side_of}
+use Rattle.vd_operators.specs.declared.attributes.Side.TheVariants.{LowSide, HighSide}
+use Rattle.vd_composites.specs.Composites.{Value, Items, item, leaves, Fields, bounds_of}
 use Rattle.vd_composites.specs.Subtypes.{Subtype, Scalars, fit, default_of}
 use Rattle.vd_environments.specs.Got.{Got, got, stop, senseless}
 use Rattle.vd_environments.specs.Environments.{ScalarSignal, Signals, Static, is_static, Make, OfFields, Makes, and_make, Env, Indicated, or_senseless}
@@ -17,8 +20,9 @@ use Rattle.vd_meaning.specs.Tables.{same_type}
 use Rattle.vd_meaning.specs.Names.{Named, no_name}
 use Rattle.vd_meaning.specs.Facets.{Meaning, Objects, at_once}
 use Rattle.vd_meaning.specs.Statements.{driving}
+use Rattle.vd_meaning.specs.Meanings.{process_of}
 use Rattle.vd_elaboration.specs.Layouts.{Leaf, Counted}
-use Rattle.vd_elaboration.specs.Building.{Mode, Input, Output, BothWays, PortSource, Made, Built, evaluated, looking, seen_in, counted, layout_of, size_of_object, Start, plain_start, signals_of, scalar_objects, State, with_object, with_process}
+use Rattle.vd_elaboration.specs.Building.{Mode, Input, Output, BothWays, PortSource, Made, Built, evaluated, looking, seen_in, counted, layout_of, size_of_object, same_scalar_type, first_of_object, Start, plain_start, signals_of, scalar_objects, State, with_object, with_process}
 use Rattle.vd_elaboration.specs.Facets.{ElementMode, ByMode, ByView, ViewElement, View, Ports, Actual}
 
 -- ---- modes of the scalars of a port, by its mode or its view
@@ -136,10 +140,15 @@ view_subtype views (ByView d k) f = marked_by (view_in views d) f
 abbrev pub port_indicated : List View → Ports → Env → Got Indicated
 port_indicated views p f = if p.has_subtype then p.objects.indicated f else view_subtype views p.mode f
 
+-- a mode for each of its scalar signals
+abbrev pub modes_of_port : List View → ElementMode → Indicated → Got (List Mode)
+modes_of_port views mode i = if length (port_modes views mode i) == size_of_object i then Ok (port_modes views mode i) else senseless
+
 abbrev pub some_port : List View → Scope → Env → Ports → ℕ → List ℕ → Made → Built (Counted Port)
 some_port views inner f p d name made =
     evaluated inner (port_indicated views p f) >>= λ i. counted (size_of_object i) made >>= λ counting. default_value inner f p.objects.default i >>= λ v.
-    Ok (record { it = record { number = d; name = name; indicated = i; modes = port_modes views p.mode i; initial = leaves v }; next = counting.counted })
+    evaluated inner (first_of_object i v) >>= λ w. evaluated inner (modes_of_port views p.mode i) >>= λ modes.
+    Ok (record { it = record { number = d; name = name; indicated = i; modes = modes; initial = leaves w }; next = counting.counted })
 
 -- ports and how many scalar signals are counted then
 abbrev pub ports_named : List View → Scope → Env → Ports → List ℕ → List (List ℕ) → Made → Built (Counted (List Port))
@@ -174,18 +183,32 @@ port_sources k (Input ∷ ms) (n ∷ ns) = port_sources (suc k) ms ns
 port_sources k (m ∷ ms) (n ∷ ns) = record { port = k; of = n.number } ∷ port_sources (suc k) ms ns
 port_sources k _ _ = []
 
--- A scalar port and its actual have the same bounds, by size. An array port is as long as its actual.
+-- A scalar port and its actual have the same 'low and 'high, also of null ranges. An array port is as long as its actual.
 abbrev pub same_limits : Subtype → Subtype → Got (Unit {0})
 same_limits (Scalars s) (Scalars r) =
-    if int_eq (low_of s.range) (low_of r.range) && int_eq (high_of s.range) (high_of r.range) then Ok tt else stop Range
+    if int_eq (side_of LowSide s.range) (side_of LowSide r.range) && int_eq (side_of HighSide s.range) (side_of HighSide r.range)
+    then Ok tt else stop Range
 same_limits _ _ = Ok tt
 
 abbrev pub scalar_limits : Subtype → Got Subtype → Got (Unit {0})
 scalar_limits (Scalars s) (Ok r) = same_limits (Scalars s) r
 scalar_limits s _ = Ok tt
 
+abbrev pub same_length : Option Bounds → Option Bounds → Got (Unit {0})
+same_length (Some b) (Some c) = if length_of b == length_of c then Ok tt else stop Length
+same_length _ _ = Ok tt
+
+-- they have one type, and so equally many scalars of the same types then
+abbrev pub have_one_type : List Leaf → List ScalarSignal → Bool
+have_one_type [] [] = true
+have_one_type (leaf ∷ rest) (n ∷ ns) = same_scalar_type leaf.of_type n.of_type && have_one_type rest ns
+have_one_type _ _ = false
+
+abbrev pub same_types : Port → Signals → Got (Unit {0})
+same_types p signals = if have_one_type (leaves (layout_of p.indicated)) (leaves signals) then Ok tt else senseless
+
 abbrev pub as_long : Port → Signals → Got (Unit {0})
-as_long p signals = if length (leaves signals) == length p.initial then Ok tt else stop Length
+as_long p signals = same_length (bounds_of (layout_of p.indicated)) (bounds_of signals) >>= λ x. same_types p signals
 
 abbrev pub ties : Port → Got Subtype → Signals → Got (Unit {0})
 ties p subtype signals = scalar_limits p.indicated.subtype subtype >>= λ x. as_long p signals
@@ -218,7 +241,7 @@ target_named i signals = record no_name { signals = λ _. Ok signals; subtype = 
 
 abbrev pub implicit_process : Indicated → Signals → Meaning → Process
 implicit_process i signals m =
-    record { declarations = []; statements = driving (target_named i signals) Inertial (at_once m.value); sensitivity = Some m.reads; targets = λ _. Ok (signals ∷ []) }
+    process_of (driving (target_named i signals) Inertial (at_once m.value)) (Some m.reads) (λ _. Ok (signals ∷ []))
 
 -- a signal with no declaration of its own
 abbrev pub added : Scope → List ℕ → Indicated → List Start → State → State

@@ -11,9 +11,8 @@ use Rattle.vd_forms.specs.declared.form.Form.TheVariants as form
 use Rattle.vd_resolved.specs.declared.node.Resolved.{Resolved}
 use Rattle.vd_composites.specs.Stops.{◌>>=◌}
 use Rattle.vd_composites.specs.Composites.{Value}
-use Rattle.vd_composites.specs.Subtypes.{fit, default_of}
 use Rattle.vd_environments.specs.Got.{Got}
-use Rattle.vd_environments.specs.Environments.{Env, Indicated, literals_of, or_senseless}
+use Rattle.vd_environments.specs.Environments.{never, Env, Indicated, literals_of, or_senseless}
 use Rattle.vd_environments.specs.Environments.{with_object as with_constant}
 use Rattle.vd_environments.specs.Commands.{run}
 use Rattle.vd_environments.specs.Processes.{declared_end}
@@ -22,11 +21,11 @@ use Rattle.vd_meaning.specs.Names.{number_or, position_in}
 use Rattle.vd_meaning.specs.Facets.{Meaning, ByEquality, value_of, Association, ByChoices}
 use Rattle.vd_meaning.specs.Brackets.{or_else}
 use Rattle.vd_meaning.specs.Statements.{truth_of, values_of_range}
-use Rattle.vd_meaning.specs.Declarations.{initial_value}
+use Rattle.vd_meaning.specs.Declarations.{initial_value, new_objects}
 use Rattle.vd_meaning.specs.Meanings.{node_meaning, made}
 use Rattle.vd_elaboration.specs.Layouts.{index_at}
-use Rattle.vd_elaboration.specs.Building.{Mode, Input, Output, BothWays, evaluated, inside_generate, counted, size_of_object, State, with_signal, with_processes}
-use Rattle.vd_elaboration.specs.Facets.{ElementMode, ByMode, ByView, ViewElement, Ports, Instance, Elaborating, nothing_to_do, one_after_other, EntityUnit, ArchitectureUnit, PackageUnit, Part, of_meaning, nth, from, last_of, gathered}
+use Rattle.vd_elaboration.specs.Building.{Mode, Input, Output, BothWays, evaluated, inside_generate, counted, size_of_object, first_of_object, State, with_signal, with_processes}
+use Rattle.vd_elaboration.specs.Facets.{ElementMode, ByMode, ByView, ViewElement, Ports, Instance, Elaborating, nothing_to_do, one_after_other, PackageText, PlainPackage, GenericPackage, BodyOfPackage, InstanceOfPackage, EntityUnit, ArchitectureUnit, PackageUnit, Part, of_meaning, nth, from, last_of, gathered}
 use Rattle.vd_elaboration.specs.Instances.{known_early}
 use Rattle.vd_elaboration.specs.Hierarchies.{label_of, leaving}
 
@@ -46,6 +45,7 @@ pub data Kind : Type 0 where
   ViewWord : Kind
   PortList : Kind
   ViewPorts : Kind
+  GenericList : Kind
   ViewPart : Kind
   ViewText : Kind
   -- declarations
@@ -70,6 +70,7 @@ pub data Kind : Type 0 where
   Architecture : Kind
   Package : Kind
   PackageBody : Kind
+  PackageInstance : Kind
 
 abbrev pub kind : Form → Kind
 kind form.Identifier = Leaf'
@@ -86,6 +87,7 @@ kind form.InOut = Word BothWays
 kind form.ViewMode = ViewWord
 kind form.PortDeclaration = PortList
 kind form.ViewPort = ViewPorts
+kind form.GenericConstant = GenericList
 kind form.ViewElement = ViewPart
 kind form.ViewDeclaration = ViewText
 kind form.SignalDeclaration = Signals'
@@ -93,6 +95,7 @@ kind form.ConstantDeclaration = Declared
 kind form.TypeDeclaration = Declared
 kind form.SubtypeDeclaration = Declared
 kind form.FunctionBody = Declared
+kind form.FunctionInstantiation = Declared
 kind form.DeclarativePart = Declarations
 kind form.ProcessStatement = Processes'
 kind form.ConcurrentAssignment = Processes'
@@ -113,6 +116,7 @@ kind form.EntityDeclaration = Entity
 kind form.ArchitectureBody = Architecture
 kind form.PackageDeclaration = Package
 kind form.PackageBody = PackageBody
+kind form.PackageInstantiation = PackageInstance
 kind _ = Gathering
 
 -- ---- declarations
@@ -127,7 +131,7 @@ commanded m h scope s = evaluated scope (declared_end (run (m.command None) s.en
 -- signals: the subtype, which counts, and then the initial value, one after the other
 abbrev pub new_signal : Meaning → Meaning → ℕ → List ℕ → Elaborating
 new_signal subtype initial d name h scope s =
-    evaluated scope (subtype.indicated s.env) >>= λ i. counted (size_of_object i) s.made >>= λ made. evaluated scope (initial_value initial i s.env) >>= λ v.
+    evaluated scope (subtype.indicated s.env) >>= λ i. counted (size_of_object i) s.made >>= λ made. evaluated scope (initial_value initial i s.env >>= first_of_object i) >>= λ v.
     Ok (with_signal scope d name i v (record s { made = made }))
 
 abbrev pub new_signals : Meaning → Meaning → List ℕ → List (List ℕ) → Elaborating
@@ -209,6 +213,7 @@ gathering m ps =
       elements = gathered (λ p. p.elements) ps;
       views = gathered (λ p. p.views) ps;
       ports = gathered (λ p. p.ports) ps;
+      defaults = gathered (λ p. p.defaults) ps;
       units = gathered (λ p. p.units) ps;
     }
 
@@ -219,18 +224,56 @@ abbrev pub ports_part : Resolved → List Part → ElementMode → Part → List
 ports_part n ps mode subtype =
     record {
       names = (nth 1 ps).meaning.texts;
-      objects = record { numbers = (nth 1 ps).meaning.numbers; indicated = subtype.meaning.indicated; default = None };
+      objects = record { numbers = (nth 1 ps).meaning.numbers; indicated = subtype.meaning.indicated; default = None; known = λ _. never };
       has_subtype = subtype.meaning.is_present;
       named = subtype.named;
       mode = mode;
     } ∷ []
 
-abbrev pub default_of_port : Meaning → Option (Got Rattle.vd_composites.specs.Subtypes.Subtype → Env → Got (Value Scalar))
-default_of_port m = if m.is_present then Some m.value else None
-
 abbrev pub element_parts : List (List ℕ) → ElementMode → List ViewElement
 element_parts [] mode = []
 element_parts (name ∷ names) mode = record { name = name; mode = mode } ∷ element_parts names mode
+
+-- ---- packages
+
+abbrev pub package_text : Resolved → List Part → PackageText
+package_text n ps =
+    record {
+      sort = if (nth 1 ps).meaning.is_present then GenericPackage else PlainPackage;
+      name = (nth 0 ps).meaning.text;
+      number = number_or (made n (nth 0 ps).meaning);
+      generics = (nth 1 ps).meaning.formals;
+      declaring = (nth 2 ps).declaring;
+      declarations = (nth 2 ps).meaning.declarations;
+      actuals = λ _. [];
+      copies = [];
+    }
+
+abbrev pub package_body_text : Resolved → List Part → PackageText
+package_body_text n ps =
+    record {
+      sort = BodyOfPackage;
+      name = (nth 0 ps).meaning.text;
+      number = number_or (made n (nth 0 ps).meaning);
+      generics = [];
+      declaring = (nth 1 ps).declaring;
+      declarations = (nth 1 ps).meaning.declarations;
+      actuals = λ _. [];
+      copies = [];
+    }
+
+abbrev pub package_instance_text : Meaning → List Part → PackageText
+package_instance_text m ps =
+    record {
+      sort = InstanceOfPackage;
+      name = (nth 0 ps).meaning.text;
+      number = number_or (nth 1 ps).meaning.declaration;
+      generics = [];
+      declaring = nothing_to_do;
+      declarations = [];
+      actuals = m.actuals;
+      copies = m.copies;
+    }
 
 -- only in front of `=>` a name is that of a formal
 abbrev pub formal_in : Association → Option ℕ → Option ℕ
@@ -248,9 +291,10 @@ part_of Map n m ps = record (gathering m ps) { actuals = map (λ p. record { for
 part_of (Word mode) n m ps = record (gathering m ps) { mode = ByMode mode }
 part_of ViewWord n m ps = record (gathering m ps) { mode = ByView (nth 0 ps).meaning.declaration (is_conversed (nth 1 ps).meaning) }
 part_of PortList n m ps =
-    record (gathering m ps) { ports = record { names = (nth 1 ps).meaning.texts; objects = record { numbers = (nth 1 ps).meaning.numbers; indicated = (nth 3 ps).meaning.indicated; default = default_of_port (nth 4 ps).meaning }; has_subtype = true; named = (nth 3 ps).named; mode = (nth 2 ps).mode } ∷ [] }
+    record (gathering m ps) { ports = record { names = (nth 1 ps).meaning.texts; objects = new_objects (nth 1 ps).meaning.numbers (nth 3 ps).meaning (nth 4 ps).meaning; has_subtype = true; named = (nth 3 ps).named; mode = (nth 2 ps).mode } ∷ [] }
 part_of ViewPorts n m ps =
     record (gathering m ps) { ports = ports_part n ps (ByView (nth 2 ps).meaning.declaration (is_conversed (nth 3 ps).meaning)) (nth 4 ps) }
+part_of GenericList n m ps = record (gathering m ps) { defaults = (nth 4 ps).named ∷ [] }
 part_of ViewPart n m ps = record (gathering m ps) { elements = element_parts (nth 0 ps).meaning.texts (nth 1 ps).mode }
 part_of ViewText n m ps =
     record (gathering m ps) { views = record { view = number_or (made n (nth 0 ps).meaning); mark = (nth 1 ps).meaning.declaration; elements = (nth 2 ps).elements } ∷ [] }
@@ -281,13 +325,16 @@ part_of Alternative n m ps = record (gathering (record m { covers = (nth 0 ps).m
 part_of Body n m ps = record (gathering m ps) { region = region_of (nth 0 ps ∷ []) (from 1 ps) }
 part_of Statements n m ps = record (gathering m ps) { region = region_of [] ps }
 part_of Entity n m ps =
-    record (gathering m ps) { units = EntityUnit (nth 0 ps).meaning.text (nth 1 ps).meaning.objects (nth 2 ps).ports ∷ [] }
+    record (gathering m ps) {
+      units = EntityUnit (nth 0 ps).meaning.text (record { objects = (nth 1 ps).meaning.objects; defaults = (nth 1 ps).defaults }) (nth 2 ps).ports ∷ [];
+    }
 part_of Architecture n m ps =
     record (gathering m ps) {
       units = ArchitectureUnit (nth 0 ps).meaning.text (nth 1 ps).meaning.text (λ h scope s. (nth 2 ps).declaring h scope s >>= (nth 3 ps).region h scope) ∷ [];
     }
-part_of Package n m ps = record (gathering m ps) { units = if (nth 1 ps).meaning.is_present then [] else PackageUnit (nth 0 ps).meaning.text (nth 2 ps).declaring ∷ [] }
-part_of PackageBody n m ps = record (gathering m ps) { units = PackageUnit (nth 0 ps).meaning.text (nth 1 ps).declaring ∷ [] }
+part_of Package n m ps = record (gathering m ps) { units = PackageUnit (package_text n ps) ∷ [] }
+part_of PackageBody n m ps = record (gathering m ps) { units = PackageUnit (package_body_text n ps) ∷ [] }
+part_of PackageInstance n m ps = record (gathering m ps) { units = PackageUnit (package_instance_text m ps) ∷ [] }
 
 -- ---- trees
 

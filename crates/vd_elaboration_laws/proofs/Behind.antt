@@ -1,19 +1,17 @@
 -- Declarations behind those of a tree keep its traces.
-use Rattle.std.proofs.Common.{◌≡◌, ◌<◌, ◌≤◌, ℕ, nat_lt, ◌==◌, ◌&&◌, Bool, true, false, List, [], ◌∷◌, ◌++◌, length, map, refl, sym, ap, ◌∙◌, subst, if◌then◌else◌, true≢false}
+use Rattle.std.proofs.Common.{◌≡◌, ◌<◌, ℕ, nat_lt, ◌==◌, ◌&&◌, Bool, true, false, List, [], ◌∷◌, ◌++◌, length, map, refl, sym, ap, ◌∙◌, subst, if◌then◌else◌, true≢false}
 use Rattle.std.specs.List.{All}
-use Rattle.vd_trees.specs.declared.revision.Revision.{Revision}
 use Rattle.vd_values.specs.declared.scalar.Scalar.{Scalar}
 use Rattle.vd_declarations.specs.declared.declarations.Declaration.{Declaration}
 use Rattle.vd_resolved.specs.Validity.{IsOwn}
 use Rattle.vd_composites.specs.Composites.{Value}
-use Rattle.vd_environments.specs.Environments.{Denotation, Indicated, nothing_denoted}
-use Rattle.vd_meaning.specs.Tables.{given_count}
+use Rattle.vd_environments.specs.Environments.{Indicated, nothing_denoted}
 use Rattle.vd_meaning.specs.Given.{denoted_in, marks}
-use Rattle.vd_elaboration.specs.Elaborations.{Top, beginning, elaboration}
+use Rattle.vd_elaboration.specs.Elaborations.{beginning, elaboration}
 use Rattle.vd_meaning_laws.specs.Agreement.{Link}
 use Rattle.vd_meaning_laws.specs.Appending.{moved, appended}
 use Rattle.vd_meaning_laws.proofs.Appending.{stays, same_number, small, head_of, rest_of, some_given, is_apart, same_tables, own_trees}
-use Rattle.vd_elaboration_laws.specs.Laws.{generic_in, top_in, AlikeElaborations, KeepsGiven, DeclarationsBehindKeepTraces}
+use Rattle.vd_elaboration_laws.specs.Laws.{generic_in, AlikeElaborations, KeepsGiven, DeclarationsBehindKeepTraces}
 use Rattle.vd_elaboration_laws.proofs.Trees.{all_elaborations}
 use Rattle.vd_elaboration_laws.proofs.Designs.{top_traces}
 

@@ -77,7 +77,7 @@ module _ (l : Link) (numbers : IsApart l) where
 
   -- ---- processes
 
-  joined_zip : {A : Type 0} (R : A → A → Type 0) (xs ys us vs : List A) → AllZip R xs ys → AllZip R us vs → AllZip R (xs ++ us) (ys ++ vs)
+  pub joined_zip : {A : Type 0} (R : A → A → Type 0) (xs ys us vs : List A) → AllZip R xs ys → AllZip R us vs → AllZip R (xs ++ us) (ys ++ vs)
   joined_zip R [] [] us vs h k = k
   joined_zip R (x ∷ xs) (y ∷ ys) us vs h k = (h.0, joined_zip R xs ys us vs h.1 k)
   joined_zip R _ _ us vs h k = absurd h

@@ -8,29 +8,31 @@ use Rattle.vd_trees.specs.declared.paths.Label.{Label}
 use Rattle.vd_resolved.specs.declared.node.Resolved.{Resolved}
 use Rattle.vd_composites.specs.Stops.{◌>>=◌}
 use Rattle.vd_composites.specs.Composites.{Value}
-use Rattle.vd_composites.specs.Subtypes.{Subtype, fit, default_of}
+use Rattle.vd_composites.specs.Subtypes.{fit, default_of}
 use Rattle.vd_environments.specs.Got.{Got, got}
-use Rattle.vd_environments.specs.Environments.{Env, Indicated, or_senseless, literals_of}
+use Rattle.vd_environments.specs.Environments.{never, Env, Indicated, or_senseless, literals_of}
 use Rattle.vd_meaning.specs.Names.{number_or}
 use Rattle.vd_meaning.specs.Facets.{Meaning, no_meaning, Association, Positional, ByChoices, ForOthers, ByEquality, value_of}
 use Rattle.vd_meaning.specs.Brackets.{or_else}
 use Rattle.vd_meaning.specs.Statements.{truth_of, values_of_range}
-use Rattle.vd_meaning.specs.Declarations.{initial_value}
+use Rattle.vd_meaning.specs.Declarations.{initial_value, new_objects}
 use Rattle.vd_meaning.specs.Meanings.{made}
-use Rattle.vd_elaboration.specs.Building.{Mode, Made, Built, evaluated, inside_generate, counted, size_of_object, State, with_signal, with_processes}
-use Rattle.vd_elaboration.specs.Facets.{ElementMode, ByView, Elaborating, nothing_to_do, one_after_other, Unit', EntityUnit, ArchitectureUnit, PackageUnit, Part, of_meaning, nth, from, last_of, gathered}
+use Rattle.vd_elaboration.specs.Building.{Mode, Made, Built, evaluated, inside_generate, counted, size_of_object, first_of_object, State, with_signal, with_processes}
+use Rattle.vd_elaboration.specs.Facets.{ElementMode, ByView, Elaborating, nothing_to_do, one_after_other, PlainPackage, GenericPackage, Unit', EntityUnit, ArchitectureUnit, PackageUnit, Part, of_meaning, nth, from, last_of, gathered}
 use Rattle.vd_elaboration.specs.Hierarchies.{label_of}
 use Rattle.vd_elaboration.specs.Parts
-use Rattle.vd_meaning_laws.specs.Agreement.{Link, IsApart, through, Agree, AgreeAfter, number_in}
-use Rattle.vd_meaning_laws.specs.Renumbering.{AlikeMeaning, renumbered, default_in}
+use Rattle.vd_meaning_laws.specs.Agreement.{Link, IsApart, through, Agree, Alike, AgreeAfter, number_in}
+use Rattle.vd_meaning_laws.specs.Renumbering.{AlikeMeaning, AlikeObjects, renumbered}
+use Rattle.vd_meaning_laws.proofs.Agreeing.{at}
 use Rattle.vd_meaning_laws.proofs.Parts.{none_alike}
-use Rattle.vd_meaning_laws.proofs.Doing.{truths_alike, values_same}
+use Rattle.vd_meaning_laws.proofs.Doing.{truths_alike, values_alike as values_of_alike}
 use Rattle.vd_meaning_laws.proofs.Elaborating.{ended}
-use Rattle.vd_meaning_laws.proofs.Nodes.{made_number, either_same, list_same}
+use Rattle.vd_meaning_laws.proofs.Nodes.{made_number, or_first, either_same, list_same}
+use Rattle.vd_meaning_laws.proofs.Declaring.{objects_alike}
 use Rattle.vd_meaning_laws.proofs.Facing.{with_text, with_covers}
-use Rattle.vd_elaboration_laws.specs.Agreement.{element_mode_in, element_in, view_under, ports_in, AlikeActual, AlikeInstance, AlikeState, AlikeStates, AlikeElaborating, AlikeUnit, AlikePart}
+use Rattle.vd_elaboration_laws.specs.Agreement.{element_mode_in, element_in, view_under, AlikePorts, AlikeActual, AlikeInstance, AlikeState, AlikeStates, AlikeElaborating, AlikeUnit, AlikePart}
 use Rattle.vd_elaboration_laws.proofs.Built.{built_then, evaluated_then, counted_alike, signal_alike, processes_alike}
-use Rattle.vd_elaboration_laws.proofs.Interfaces.{constant_agrees, value_agreed, in_agreed}
+use Rattle.vd_elaboration_laws.proofs.Interfaces.{constant_agrees, value_agreed}
 use Rattle.vd_elaboration_laws.proofs.Associating.{left_alike}
 use Rattle.vd_elaboration_laws.proofs.Facing
 
@@ -50,14 +52,15 @@ module _ (l : Link) (numbers : IsApart l) where
         mode = refl;
         elements = refl;
         views = refl;
-        ports = refl;
+        ports = tt;
+        defaults = refl;
         actuals = tt;
         declaring = nothing_alike;
         region = nothing_alike;
         ahead = λ label. nothing_alike;
         elaborating = λ label. nothing_alike;
         otherwise = λ label f g h. h;
-        cases = λ label s. nothing_alike;
+        cases = λ label s s' a. nothing_alike;
         units = tt;
       }
 
@@ -102,6 +105,11 @@ module _ (l : Link) (numbers : IsApart l) where
   gathered_units (p ∷ ps) (q ∷ qs) h = joined_zip (AlikeUnit l) p.units q.units _ _ h.0.units (gathered_units ps qs h.1)
   gathered_units _ _ h = absurd h
 
+  gathered_ports : (ps qs : List Part) → PartsAlike ps qs → AllZip (AlikePorts l) (gathered (λ p. p.ports) ps) (gathered (λ p. p.ports) qs)
+  gathered_ports [] [] h = tt
+  gathered_ports (p ∷ ps) (q ∷ qs) h = joined_zip (AlikePorts l) p.ports q.ports _ _ h.0.ports (gathered_ports ps qs h.1)
+  gathered_ports _ _ h = absurd h
+
   pub gathered_views : (ps qs : List Part) → PartsAlike ps qs → gathered (λ p. p.views) qs ≡ map (view_under l) (gathered (λ p. p.views) ps)
   gathered_views ps qs h = gathered_same (view_under l) (λ p. p.views) (λ p q k. k.views) ps qs h
 
@@ -114,14 +122,15 @@ module _ (l : Link) (numbers : IsApart l) where
         mode = refl;
         elements = gathered_same (element_in l) (λ p. p.elements) (λ p q k. k.elements) ps qs h;
         views = gathered_views ps qs h;
-        ports = gathered_same (ports_in l) (λ p. p.ports) (λ p q k. k.ports) ps qs h;
+        ports = gathered_ports ps qs h;
+        defaults = gathered_same (map l.number) (λ p. p.defaults) (λ p q k. k.defaults) ps qs h;
         actuals = tt;
         declaring = nothing_alike;
         region = nothing_alike;
         ahead = λ label. nothing_alike;
         elaborating = λ label. nothing_alike;
         otherwise = λ label f g h. h;
-        cases = λ label s. nothing_alike;
+        cases = λ label s s' a. nothing_alike;
         units = gathered_units ps qs h;
       }
 
@@ -136,13 +145,6 @@ module _ (l : Link) (numbers : IsApart l) where
   actuals_alike (p ∷ ps) (q ∷ qs) h =
       (record { formal = formal_same p.meaning.association q.meaning.association h.0.meaning.association p.formal q.formal h.0.formal; meaning = h.0.meaning }, actuals_alike ps qs h.1)
   actuals_alike _ _ h = absurd h
-
-  by_presence : (b : Bool) (f : Got Subtype → Env → Got (Value Scalar)) → (if b then Some (λ known e. f known (through l e)) else None) ≡ default_in l (if b then Some f else None)
-  by_presence true f = refl
-  by_presence false f = refl
-
-  default_same : (m n : Meaning) → AlikeMeaning l m n → Parts.default_of_port n ≡ default_in l (Parts.default_of_port m)
-  default_same m n h = (λ i. if h.is_present i then Some (h.value i) else None) ∙ by_presence m.is_present m.value
 
   elements_same : (names : List (List ℕ)) (x : ElementMode) → Parts.element_parts names (element_mode_in l x) ≡ map (element_in l) (Parts.element_parts names x)
   elements_same [] x = refl
@@ -184,9 +186,9 @@ module _ (l : Link) (numbers : IsApart l) where
 
   signal_alike' : (m n m' n' : Meaning) → AlikeMeaning l m n → AlikeMeaning l m' n' → (d : ℕ) (name : List ℕ) → AlikeElaborating l (Parts.new_signal m m' d name) (Parts.new_signal n n' (l.number d) name)
   signal_alike' m n m' n' j k d name h h' hs scope s t a =
-      evaluated_then (AlikeState l) scope _ _ _ _ (in_agreed l numbers m.indicated n.indicated j.indicated s.env t.env a.env) (λ i.
+      evaluated_then (AlikeState l) scope _ _ _ _ (at l numbers m.indicated n.indicated j.indicated s.env t.env a.env) (λ i.
       built_then _ (AlikeState l) (counted (size_of_object i) s.made) (counted (size_of_object i) t.made) _ _ (counted_alike l numbers (size_of_object i) s.made t.made a.made) (λ x y b.
-      evaluated_then (AlikeState l) scope _ _ _ _ (initial_same m' n' k i s.env t.env a.env) (λ v.
+      evaluated_then (AlikeState l) scope _ _ _ _ (λ j. initial_same m' n' k i s.env t.env a.env j >>= first_of_object i) (λ v.
       signal_alike l numbers scope d name i v _ _ (record { env = a.env; made = b }))))
 
   signals_alike : (m n m' n' : Meaning) → AlikeMeaning l m n → AlikeMeaning l m' n' → (ds : List ℕ) (names : List (List ℕ)) → AlikeElaborating l (Parts.new_signals m m' ds names) (Parts.new_signals n n' (map l.number ds) names)
@@ -208,7 +210,7 @@ module _ (l : Link) (numbers : IsApart l) where
 
   holds_alike : (m n : Meaning) → AlikeMeaning l m n → (f g f' g' : Elaborating) → AlikeElaborating l f f' → AlikeElaborating l g g' → AlikeElaborating l (Parts.if_holds m f g) (Parts.if_holds n f' g')
   holds_alike m n k f g f' g' x y h h' hs scope s t a =
-      evaluated_then (AlikeState l) scope (truth_of m s.env) (truth_of n t.env) _ _ (truths_alike l numbers m n k t.env ∙ ap (truth_of m) a.env.same) (λ b.
+      evaluated_then (AlikeState l) scope (truth_of m s.env) (truth_of n t.env) _ _ (at l numbers (truth_of m) (truth_of n) (truths_alike l numbers m n k) s.env t.env a.env) (λ b.
       if_states b _ _ _ _ (x h h' hs scope s t a) (y h h' hs scope s t a))
 
   by_part : (b c : Bool) → c ≡ b → (f g : Elaborating) → AlikeElaborating l f g → AlikeElaborating l (if b then f else nothing_to_do) (if c then g else nothing_to_do)
@@ -223,13 +225,13 @@ module _ (l : Link) (numbers : IsApart l) where
   otherwise_alike (p ∷ ps) (q ∷ qs) h label f g x = h.0.otherwise label _ _ (otherwise_alike ps qs h.1 label f g x)
   otherwise_alike _ _ h label f g x = absurd h
 
-  covering_alike : (ps qs : List Part) → PartsAlike ps qs → (label : List ℕ) (v : Env → Got (Value Scalar)) → AlikeElaborating l (Parts.first_covering ps label v) (Parts.first_covering qs label (λ e. v (through l e)))
-  covering_alike [] [] k label v h h' hs scope s t a = evaluated_then (AlikeState l) scope (v s.env) (v (through l t.env)) _ _ (ap v a.env.same) (λ x. a)
-  covering_alike (p ∷ ps) (q ∷ qs) k label v h h' hs scope s t a =
-      evaluated_then (AlikeState l) scope (v s.env >>= λ x. p.meaning.covers ByEquality x s.env) (v (through l t.env) >>= λ x. q.meaning.covers ByEquality x t.env) _ _
-      ((λ i. v (through l t.env) >>= λ x. k.0.meaning.covers i ByEquality x t.env) ∙ (λ i. v (a.env.same i) >>= λ x. p.meaning.covers ByEquality x (a.env.same i))) (λ b.
-      if_states b _ _ _ _ (generated_alike p q k.0 (label_of label) h h' hs scope s t a) (covering_alike ps qs k.1 label v h h' hs scope s t a))
-  covering_alike _ _ k label v h h' hs scope s t a = absurd k
+  covering_alike : (ps qs : List Part) → PartsAlike ps qs → (label : List ℕ) (v v' : Env → Got (Value Scalar)) → Alike l v v' → AlikeElaborating l (Parts.first_covering ps label v) (Parts.first_covering qs label v')
+  covering_alike [] [] k label v v' x h h' hs scope s t a = evaluated_then (AlikeState l) scope (v s.env) (v' t.env) _ _ (at l numbers v v' x s.env t.env a.env) (λ y. a)
+  covering_alike (p ∷ ps) (q ∷ qs) k label v v' x h h' hs scope s t a =
+      evaluated_then (AlikeState l) scope (v s.env >>= λ y. p.meaning.covers ByEquality y s.env) (v' t.env >>= λ y. q.meaning.covers ByEquality y t.env) _ _
+      (λ i. at l numbers v v' x s.env t.env a.env i >>= λ y. at l numbers (p.meaning.covers ByEquality y) (q.meaning.covers ByEquality y) (k.0.meaning.covers ByEquality y) s.env t.env a.env i) (λ b.
+      if_states b _ _ _ _ (generated_alike p q k.0 (label_of label) h h' hs scope s t a) (covering_alike ps qs k.1 label v v' x h h' hs scope s t a))
+  covering_alike _ _ k label v v' x h h' hs scope s t a = absurd k
 
   values_alike : (p q : Part) → AlikePart l p q → (name : List ℕ) (d : ℕ) (i : Indicated) (vs : List (Value Scalar)) → AlikeElaborating l (Parts.for_values p name d i vs) (Parts.for_values q name (l.number d) i vs)
   values_alike p q k name d i [] h h' hs scope s t a = a
@@ -248,7 +250,7 @@ module _ (l : Link) (numbers : IsApart l) where
 
   for_alike : (p q : Part) → AlikePart l p q → (m n : Meaning) → AlikeMeaning l m n → (name : List ℕ) (d : ℕ) → AlikeElaborating l (Parts.for_generate p m name d) (Parts.for_generate q n name (l.number d))
   for_alike p q k m n j name d h h' hs scope s t a =
-      evaluated_then (AlikeState l) scope (values_of_range m s.env) (values_of_range n t.env) _ _ (values_same l numbers m n j t.env ∙ ap (values_of_range m) a.env.same) (λ vs.
+      evaluated_then (AlikeState l) scope (values_of_range m s.env) (values_of_range n t.env) _ _ (at l numbers (values_of_range m) (values_of_range n) (values_of_alike l numbers m n j) s.env t.env a.env) (λ vs.
       evaluated_then (AlikeState l) scope (Parts.parameter_type m.mark s.env) (Parts.parameter_type n.mark t.env) _ _ (parameter_same m.mark n.mark j.mark s.env t.env a.env) (λ i.
       left_alike l numbers s.env t.env a.env _ _ (values_alike p q k name d i vs h h' hs scope s t a)))
 
@@ -273,22 +275,23 @@ module _ (l : Link) (numbers : IsApart l) where
   label_alike : (f g : List ℕ → Elaborating) → ((label : List ℕ) → AlikeElaborating l (f label) (g label)) → (x y : List ℕ) → y ≡ x → AlikeElaborating l (f x) (g y)
   label_alike f g h x y e = subst (λ y. AlikeElaborating l (f x) (g y)) (sym e) (h x)
 
-  value_facet : (m n : Meaning) → AlikeMeaning l m n → value_of n ≡ (λ e. value_of m (through l e))
-  value_facet m n h = λ i. h.value i Rattle.vd_environments.specs.Environments.unknown
-
   -- ---- a case for each kind
 
   unit_zip : (u v : Unit') → AlikeUnit l u v → AllZip (AlikeUnit l) (u ∷ []) (v ∷ [])
   unit_zip u v h = (h, tt)
 
-  package_units : (b c : Bool) → c ≡ b → (x y : List ℕ) → y ≡ x → (f g : Elaborating) → AlikeElaborating l f g
-      → AllZip (AlikeUnit l) (if b then [] else PackageUnit x f ∷ []) (if c then [] else PackageUnit y g ∷ [])
-  package_units true c e x y k f g h = subst (λ c. AllZip (AlikeUnit l) [] (if c then [] else PackageUnit y g ∷ [])) (sym e) tt
-  package_units false c e x y k f g h = subst (λ c. AllZip (AlikeUnit l) (PackageUnit x f ∷ []) (if c then [] else PackageUnit y g ∷ [])) (sym e) ((k, h), tt)
+  sort_same : (b c : Bool) → c ≡ b → (if c then GenericPackage else PlainPackage) ≡ (if b then GenericPackage else PlainPackage)
+  sort_same b c e = λ i. if e i then GenericPackage else PlainPackage
 
   module _ (ps qs : List Part) (h : PartsAlike ps qs) where
     part : (k : ℕ) → AlikePart l (nth k ps) (nth k qs)
     part k = nth_alike k ps qs h
+
+    port_objects : AlikeObjects l (new_objects (nth 1 ps).meaning.numbers (nth 3 ps).meaning (nth 4 ps).meaning) (new_objects (nth 1 qs).meaning.numbers (nth 3 qs).meaning (nth 4 qs).meaning)
+    port_objects = objects_alike l numbers _ _ (part 1).meaning.numbers _ _ _ _ (part 3).meaning (part 4).meaning
+
+    mode_by_view : (x y : Option ℕ) (b c : Bool) → y ≡ number_in l x → c ≡ b → ByView y c ≡ ByView (number_in l x) b
+    mode_by_view x y b c h k = λ i. ByView (h i) (k i)
 
     pub part_alike : (k : Parts.Kind) (n : Resolved) (m m' : Meaning) → AlikeMeaning l m m' → AlikePart l (Parts.part_of k n m ps) (Parts.part_of k (renumbered l n) m' qs)
     part_alike Parts.Gathering n m m' a = gathering_alike m m' a ps qs h
@@ -303,12 +306,19 @@ module _ (l : Link) (numbers : IsApart l) where
     part_alike (Parts.Word mode) n m m' a = Facing.with_mode l (gathering_alike m m' a ps qs h) _ _ refl
     part_alike Parts.ViewWord n m m' a =
         Facing.with_mode l (gathering_alike m m' a ps qs h) _ _ (λ i. ByView ((part 0).meaning.declaration i) ((part 1).meaning.is_present i))
-    part_alike Parts.PortList n m m' a =
-        Facing.with_ports l (gathering_alike m m' a ps qs h) _ _
-        (λ i. record { names = (part 1).meaning.texts i; objects = record { numbers = (part 1).meaning.numbers i; indicated = (part 3).meaning.indicated i; default = default_same _ _ (part 4).meaning i }; has_subtype = true; named = (part 3).named i; mode = (part 2).mode i } ∷ [])
-    part_alike Parts.ViewPorts n m m' a =
-        Facing.with_ports l (gathering_alike m m' a ps qs h) _ _
-        (λ i. record { names = (part 1).meaning.texts i; objects = record { numbers = (part 1).meaning.numbers i; indicated = (part 4).meaning.indicated i; default = None }; has_subtype = (part 4).meaning.is_present i; named = (part 4).named i; mode = ByView ((part 2).meaning.declaration i) ((part 3).meaning.is_present i) } ∷ [])
+    part_alike Parts.PortList n m m' a = Facing.with_ports l (gathering_alike m m' a ps qs h) _ _
+        (record { names = (part 1).meaning.texts; objects = port_objects; has_subtype = refl; named = (part 3).named; mode = (part 2).mode }, tt)
+    part_alike Parts.ViewPorts n m m' a = Facing.with_ports l (gathering_alike m m' a ps qs h) _ _ (
+      record {
+        names = (part 1).meaning.texts;
+        objects = record { numbers = (part 1).meaning.numbers; indicated = (part 4).meaning.indicated; default = tt; known = λ e k. refl };
+        has_subtype = (part 4).meaning.is_present;
+        named = (part 4).named;
+        mode = mode_by_view (nth 2 ps).meaning.declaration (nth 2 qs).meaning.declaration (nth 3 ps).meaning.is_present (nth 3 qs).meaning.is_present (part 2).meaning.declaration (part 3).meaning.is_present;
+      },
+      tt,
+    )
+    part_alike Parts.GenericList n m m' a = Facing.with_defaults l (gathering_alike m m' a ps qs h) _ _ (λ i. (part 4).named i ∷ [])
     part_alike Parts.ViewPart n m m' a =
         Facing.with_elements l (gathering_alike m m' a ps qs h) _ _
         ((λ i. Parts.element_parts ((part 0).meaning.texts i) ((part 1).mode i)) ∙ elements_same (nth 0 ps).meaning.texts (nth 1 ps).mode)
@@ -342,10 +352,8 @@ module _ (l : Link) (numbers : IsApart l) where
         Facing.with_elaborating l (gathering_alike m m' a ps qs h) _ _ (λ label.
         subst (λ d. AlikeElaborating l (Parts.for_generate (nth 2 ps) (nth 1 ps).meaning label (number_or (made n (nth 0 ps).meaning))) (Parts.for_generate (nth 2 qs) (nth 1 qs).meaning label d)) (sym (made_number l numbers n _ _ (part 0).meaning))
         (for_alike _ _ (part 2) _ _ (part 1).meaning label (number_or (made n (nth 0 ps).meaning))))
-    part_alike Parts.CaseGenerate n m m' a =
-        Facing.with_elaborating l (gathering_alike m m' a ps qs h) _ _ (λ label.
-        subst (λ v. AlikeElaborating l ((nth 1 ps).cases label (value_of (nth 0 ps).meaning)) ((nth 1 qs).cases label v)) (λ i. sym (value_facet (nth 0 ps).meaning (nth 0 qs).meaning (part 0).meaning) i)
-        ((part 1).cases label (value_of (nth 0 ps).meaning)))
+    part_alike Parts.CaseGenerate n m m' a = Facing.with_elaborating l (gathering_alike m m' a ps qs h) _ _ (λ label.
+        (part 1).cases label (value_of (nth 0 ps).meaning) (value_of (nth 0 qs).meaning) ((part 0).meaning.value Rattle.vd_environments.specs.Environments.unknown))
     part_alike Parts.Alternatives n m m' a = Facing.with_cases l (gathering_alike m m' a ps qs h) _ _ (covering_alike ps qs h)
     part_alike Parts.Alternative n m m' a =
         Facing.with_region l (gathering_alike _ _ (with_covers l a _ _ (part 0).meaning.covers) ps qs h) _ _ (part 1).region
@@ -353,7 +361,10 @@ module _ (l : Link) (numbers : IsApart l) where
         Facing.with_region l (gathering_alike m m' a ps qs h) _ _ (region_alike (nth 0 ps ∷ []) (nth 0 qs ∷ []) (from 1 ps) (from 1 qs) (part 0, tt) (from_alike 1 ps qs h))
     part_alike Parts.Statements n m m' a = Facing.with_region l (gathering_alike m m' a ps qs h) _ _ (region_alike [] [] ps qs tt h)
     part_alike Parts.Entity n m m' a =
-        Facing.with_units l (gathering_alike m m' a ps qs h) _ _ (unit_zip (EntityUnit (nth 0 ps).meaning.text (nth 1 ps).meaning.objects (nth 2 ps).ports) (EntityUnit (nth 0 qs).meaning.text (nth 1 qs).meaning.objects (nth 2 qs).ports) ((part 0).meaning.text, (part 1).meaning.objects, (part 2).ports))
+        Facing.with_units l (gathering_alike m m' a ps qs h) _ _
+        (unit_zip (EntityUnit (nth 0 ps).meaning.text (record { objects = (nth 1 ps).meaning.objects; defaults = (nth 1 ps).defaults }) (nth 2 ps).ports)
+        (EntityUnit (nth 0 qs).meaning.text (record { objects = (nth 1 qs).meaning.objects; defaults = (nth 1 qs).defaults }) (nth 2 qs).ports)
+        ((part 0).meaning.text, record { objects = (part 1).meaning.objects; defaults = (part 1).defaults }, (part 2).ports))
     part_alike Parts.Architecture n m m' a =
         Facing.with_units l (gathering_alike m m' a ps qs h) _ _
         (unit_zip (ArchitectureUnit (nth 0 ps).meaning.text (nth 1 ps).meaning.text (λ h scope s. (nth 2 ps).declaring h scope s >>= (nth 3 ps).region h scope)) (ArchitectureUnit (nth 0 qs).meaning.text (nth 1 qs).meaning.text (λ h scope s. (nth 2 qs).declaring h scope s >>= (nth 3 qs).region h scope)) (
@@ -363,8 +374,35 @@ module _ (l : Link) (numbers : IsApart l) where
               built_then (AlikeState l) (AlikeState l) _ _ _ _ ((part 2).declaring g g' hs scope s t b) ((part 3).region g g' hs scope),
         ))
     part_alike Parts.Package n m m' a =
-        Facing.with_units l (gathering_alike m m' a ps qs h) _ _
-        (package_units (nth 1 ps).meaning.is_present (nth 1 qs).meaning.is_present (part 1).meaning.is_present _ _ (part 0).meaning.text _ _ (part 2).declaring)
+        Facing.with_units l (gathering_alike m m' a ps qs h) _ _ (unit_zip (PackageUnit (Parts.package_text n ps)) (PackageUnit (Parts.package_text (renumbered l n) qs)) (record {
+          sort = sort_same (nth 1 ps).meaning.is_present (nth 1 qs).meaning.is_present (part 1).meaning.is_present;
+          name = (part 0).meaning.text;
+          number = made_number l numbers n _ _ (part 0).meaning;
+          generics = (part 1).meaning.formals;
+          declaring = (part 2).declaring;
+          declarations = (part 2).meaning.declarations;
+          actuals = λ e k. refl;
+          copies = refl;
+        }))
     part_alike Parts.PackageBody n m m' a =
-        Facing.with_units l (gathering_alike m m' a ps qs h) _ _
-        (unit_zip (PackageUnit (nth 0 ps).meaning.text (nth 1 ps).declaring) (PackageUnit (nth 0 qs).meaning.text (nth 1 qs).declaring) ((part 0).meaning.text, (part 1).declaring))
+        Facing.with_units l (gathering_alike m m' a ps qs h) _ _ (unit_zip (PackageUnit (Parts.package_body_text n ps)) (PackageUnit (Parts.package_body_text (renumbered l n) qs)) (record {
+          sort = refl;
+          name = (part 0).meaning.text;
+          number = made_number l numbers n _ _ (part 0).meaning;
+          generics = tt;
+          declaring = (part 1).declaring;
+          declarations = (part 1).meaning.declarations;
+          actuals = λ e k. refl;
+          copies = refl;
+        }))
+    part_alike Parts.PackageInstance n m m' a =
+        Facing.with_units l (gathering_alike m m' a ps qs h) _ _ (unit_zip (PackageUnit (Parts.package_instance_text m ps)) (PackageUnit (Parts.package_instance_text m' qs)) (record {
+          sort = refl;
+          name = (part 0).meaning.text;
+          number = (λ i. number_or ((part 1).meaning.declaration i)) ∙ or_first l numbers (nth 1 ps).meaning.declaration;
+          generics = tt;
+          declaring = nothing_alike;
+          declarations = tt;
+          actuals = a.actuals;
+          copies = a.copies;
+        }))

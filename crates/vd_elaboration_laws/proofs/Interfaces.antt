@@ -1,28 +1,28 @@
 -- Views, generics and ports with other numbers.
 use Rattle.std.proofs.Common.{◌≡◌, ℕ, zero, suc, Bool, true, false, List, [], ◌∷◌, ◌++◌, length, Option, Some, None, map, refl, sym, ap, ◌∙◌, subst}
-use Rattle.std.specs.Prelude.{◌+◌, bytes_eq, is_some, if◌then◌else◌, Ok, Err}
+use Rattle.std.specs.Prelude.{◌+◌, ◌==◌, bytes_eq, is_some, if◌then◌else◌, Ok, Err}
 use Rattle.std.specs.List.{AllZip}
 use Rattle.vd_kernel.specs.Correspondence.{BothOrNone}
 use Rattle.vd_values.specs.declared.scalar.Scalar.{Scalar}
 use Rattle.vd_trees.specs.declared.paths.Scope.{Scope}
 use Rattle.vd_composites.specs.Stops.{◌>>=◌}
-use Rattle.vd_composites.specs.Composites.{Value, Items, none, item, leaves}
+use Rattle.vd_composites.specs.Composites.{Value, Items, none, item}
 use Rattle.vd_composites.specs.Composites.{One, Array, Fields}
 use Rattle.vd_composites.specs.Subtypes.{Subtype, fit}
-use Rattle.vd_environments.specs.Got.{Got, got}
+use Rattle.vd_environments.specs.Got.{Got, got, senseless}
 use Rattle.vd_environments.specs.Environments.{with_object as with_constant}
 use Rattle.vd_environments.specs.Environments.{Make, OfScalar, OfElements, OfFields, Makes, no_makes, and_make, Env, Indicated, or_senseless}
 use Rattle.vd_meaning.specs.Tables.{same_type}
 use Rattle.vd_meaning.specs.Facets.{Meaning, Objects}
 use Rattle.vd_elaboration.specs.Layouts.{Leaf, Counted}
-use Rattle.vd_elaboration.specs.Building.{Mode, Made, Built, evaluated, counted, layout_of, size_of_object}
+use Rattle.vd_elaboration.specs.Building.{Mode, Made, Built, evaluated, counted, layout_of, size_of_object, first_of_object}
 use Rattle.vd_elaboration.specs.Facets.{ElementMode, ByMode, ByView, ViewElement, View, Ports, Actual}
-use Rattle.vd_elaboration.specs.Instances.{differ, view_in, element_mode, modes_of_fields, modes_of_view, modes_by, port_modes, names_formal, named_actual, nth_actual, or_placed, unless_open, actual_for, generic_value, known_early, with_generic, with_generics_of, with_generics, Port, default_value, marked_by, view_subtype, port_indicated, some_port, ports_named, ports_of}
+use Rattle.vd_elaboration.specs.Instances.{differ, view_in, element_mode, modes_of_fields, modes_of_view, modes_by, port_modes, names_formal, named_actual, nth_actual, or_placed, unless_open, actual_for, generic_value, known_early, with_generic, with_generics_of, with_generics, Port, default_value, marked_by, view_subtype, port_indicated, modes_of_port, some_port, ports_named, ports_of}
 use Rattle.vd_meaning_laws.specs.Agreement.{Link, IsApart, through, Agree, number_in}
-use Rattle.vd_meaning_laws.specs.Renumbering.{AlikeMeaning, objects_in, default_in}
-use Rattle.vd_meaning_laws.proofs.Agreeing.{denoting_agrees}
+use Rattle.vd_meaning_laws.specs.Renumbering.{AlikeValues, AlikeMeaning, AlikeObjects}
+use Rattle.vd_meaning_laws.proofs.Agreeing.{at, denoting_agrees}
 use Rattle.vd_meaning_laws.proofs.Doing.{itself}
-use Rattle.vd_elaboration_laws.specs.Agreement.{element_mode_in, element_in, view_under, ports_in, AlikeActual, AlikeMade, AlikeBuilt}
+use Rattle.vd_elaboration_laws.specs.Agreement.{element_mode_in, element_in, view_under, AlikePorts, AlikeActual, AlikeMade, AlikeBuilt}
 use Rattle.vd_elaboration_laws.proofs.Built.{built_then, evaluated_then, counted_alike}
 
 module _ (l : Link) (numbers : IsApart l) where
@@ -131,24 +131,27 @@ module _ (l : Link) (numbers : IsApart l) where
 
   -- ---- facets in environments that agree
 
-  pub in_agreed : {A : Type 0} (f g : Env → A) → g ≡ (λ e. f (through l e)) → (e e' : Env) → Agree l e e' → g e' ≡ f e
-  in_agreed f g h e e' a = (λ i. h i e') ∙ ap f a.same
-
-  pub under_agreed : {A : Type 0} (f : Env → A) (e e' : Env) → Agree l e e' → f (through l e') ≡ f e
-  under_agreed f e e' a = ap f a.same
-
   pub value_agreed : (m n : Meaning) → AlikeMeaning l m n → (known : Got Subtype) (e e' : Env) → Agree l e e' → n.value known e' ≡ m.value known e
-  value_agreed m n h known e e' a = (λ i. h.value i known e') ∙ ap (m.value known) a.same
+  value_agreed m n h known e e' a = at l numbers (m.value known) (n.value known) (h.value known) e e' a
 
   -- ---- generics
 
-  generic_same : (outer inner : Scope) (e e' f f' : Env) → Agree l e e' → Agree l f f' → (default : Option (Got Subtype → Env → Got (Value Scalar))) (i : Indicated) (x y : Option Actual)
-      → AlikeOption x y → generic_value outer inner e' f' (default_in l default) i y ≡ generic_value outer inner e f default i x
-  generic_same outer inner e e' f f' a b default i (Some x) (Some y) h =
+  abbrev Default : Type 0
+  Default = Option (Got Subtype → Env → Got (Value Scalar))
+
+  abbrev SameDefault : Default → Default → Type 0
+  SameDefault x y = BothOrNone (AlikeValues l) x y
+
+  generic_same : (outer inner : Scope) (e e' f f' : Env) → Agree l e e' → Agree l f f' → (d d' : Default) → SameDefault d d' → (i : Indicated) (x y : Option Actual)
+      → AlikeOption x y → generic_value outer inner e' f' d' i y ≡ generic_value outer inner e f d i x
+  generic_same outer inner e e' f f' a b d d' z i (Some x) (Some y) h =
       λ k. evaluated outer (value_agreed x.meaning y.meaning h.meaning (Ok i.subtype) e e' a k >>= λ v. got (fit i.subtype v))
-  generic_same outer inner e e' f f' a b (Some default) i None None h = λ k. evaluated inner (ap (default (Ok i.subtype)) b.same k >>= λ v. got (fit i.subtype v))
-  generic_same outer inner e e' f f' a b None i None None h = refl
-  generic_same outer inner e e' f f' a b default i _ _ h = absurd h
+  generic_same outer inner e e' f f' a b (Some d) (Some d') z i None None h =
+      λ k. evaluated inner (at l numbers (d (Ok i.subtype)) (d' (Ok i.subtype)) (z (Ok i.subtype)) f f' b k >>= λ v. got (fit i.subtype v))
+  generic_same outer inner e e' f f' a b None None z i None None h = refl
+  generic_same outer inner e e' f f' a b (Some d) None z i None None h = absurd z
+  generic_same outer inner e e' f f' a b None (Some d') z i None None h = absurd z
+  generic_same outer inner e e' f f' a b d d' z i _ _ h = absurd h
 
   agreed_then : (g g' : Built (Value Scalar)) (f f' : Value Scalar → Built Env) → g' ≡ g → ((v : Value Scalar) → AlikeBuilt (Agree l) (f v) (f' v)) → AlikeBuilt (Agree l) (g >>= f) (g' >>= f')
   agreed_then (Ok v) g' f f' e same = subst (λ r. AlikeBuilt (Agree l) (f v) (r >>= f')) (sym e) (same v)
@@ -160,31 +163,36 @@ module _ (l : Link) (numbers : IsApart l) where
       subst (λ x. Agree l (with_constant d i.subtype i.make v known_early x) (with_constant (l.number d) i.subtype i.make v known_early f')) b.same
       (denoting_agrees l numbers (through l f') f' d _ (itself l numbers f' b.keeps))
 
-  generic_alike : (outer inner : Scope) (e e' : Env) → Agree l e e' → (d : ℕ) (o : Objects) (x y : Option Actual) → AlikeOption x y → (f f' : Env) → Agree l f f'
-      → AlikeBuilt (Agree l) (with_generic outer inner e d o x f) (with_generic outer inner e' (l.number d) (objects_in l o) y f')
-  generic_alike outer inner e e' a d o x y h f f' b =
-      evaluated_then (Agree l) inner (o.indicated f) (o.indicated (through l f')) _ _ (under_agreed o.indicated f f' b) (λ i.
-      agreed_then (generic_value outer inner e f o.default i x) (generic_value outer inner e' f' (default_in l o.default) i y) _ _ (generic_same outer inner e e' f f' a b o.default i x y h) (λ v.
+  generic_alike : (outer inner : Scope) (e e' : Env) → Agree l e e' → (d : ℕ) (o p : Objects) → AlikeObjects l o p → (x y : Option Actual) → AlikeOption x y → (f f' : Env) → Agree l f f'
+      → AlikeBuilt (Agree l) (with_generic outer inner e d o x f) (with_generic outer inner e' (l.number d) p y f')
+  generic_alike outer inner e e' a d o p z x y h f f' b =
+      evaluated_then (Agree l) inner (o.indicated f) (p.indicated f') _ _ (at l numbers o.indicated p.indicated z.indicated f f' b) (λ i.
+      agreed_then (generic_value outer inner e f o.default i x) (generic_value outer inner e' f' p.default i y) _ _ (generic_same outer inner e e' f f' a b o.default p.default z.default i x y h) (λ v.
       constant_agrees d i v f f' b))
 
   module _ (outer inner : Scope) (e e' : Env) (a : Agree l e e') (actual actual' : ℕ → ℕ → Option Actual) (same : (k d : ℕ) → AlikeOption (actual k d) (actual' k (l.number d))) where
-    generics_of_alike : (o : Objects) (k : ℕ) (ds : List ℕ) (f f' : Env) → Agree l f f'
-        → AlikeBuilt (Agree l) (with_generics_of outer inner e actual o k ds f) (with_generics_of outer inner e' actual' (objects_in l o) k (map l.number ds) f')
-    generics_of_alike o k [] f f' b = b
-    generics_of_alike o k (d ∷ ds) f f' b =
-        built_then (Agree l) (Agree l) _ _ _ _ (generic_alike outer inner e e' a d o (actual k d) (actual' k (l.number d)) (same k d) f f' b) (λ g g' c. generics_of_alike o (suc k) ds g g' c)
+    generics_of_alike : (o p : Objects) → AlikeObjects l o p → (k : ℕ) (ds : List ℕ) (f f' : Env) → Agree l f f'
+        → AlikeBuilt (Agree l) (with_generics_of outer inner e actual o k ds f) (with_generics_of outer inner e' actual' p k (map l.number ds) f')
+    generics_of_alike o p z k [] f f' b = b
+    generics_of_alike o p z k (d ∷ ds) f f' b =
+        built_then (Agree l) (Agree l) _ _ _ _ (generic_alike outer inner e e' a d o p z (actual k d) (actual' k (l.number d)) (same k d) f f' b) (λ g g' c. generics_of_alike o p z (suc k) ds g g' c)
 
     count_same : (ds : List ℕ) → length (map l.number ds) ≡ length ds
     count_same [] = refl
     count_same (d ∷ ds) = ap suc (count_same ds)
 
-    pub generics_alike : (k : ℕ) (os : List Objects) (f f' : Env) → Agree l f f'
-        → AlikeBuilt (Agree l) (with_generics outer inner e actual k os f) (with_generics outer inner e' actual' k (map (objects_in l) os) f')
-    generics_alike k [] f f' b = b
-    generics_alike k (o ∷ os) f f' b =
-        built_then (Agree l) (Agree l) _ _ _ _ (generics_of_alike o k o.numbers f f' b) (λ g g' c.
-        subst (λ n. AlikeBuilt (Agree l) (with_generics outer inner e actual (k + length o.numbers) os g) (with_generics outer inner e' actual' (k + n) (map (objects_in l) os) g')) (sym (count_same o.numbers))
-        (generics_alike (k + length o.numbers) os g g' c))
+    abbrev generics_from : Env → (ℕ → ℕ → Option Actual) → ℕ → Objects → List ℕ → List Objects → Env → Built Env
+    generics_from e actual k o ds os f = with_generics_of outer inner e actual o k ds f >>= with_generics outer inner e actual (k + length ds) os
+
+    pub generics_alike : (k : ℕ) (os ps : List Objects) → AllZip (AlikeObjects l) os ps → (f f' : Env) → Agree l f f'
+        → AlikeBuilt (Agree l) (with_generics outer inner e actual k os f) (with_generics outer inner e' actual' k ps f')
+    generics_alike k [] [] z f f' b = b
+    generics_alike k (o ∷ os) (p ∷ ps) z f f' b =
+        subst (λ ds. AlikeBuilt (Agree l) (generics_from e actual k o o.numbers os f) (generics_from e' actual' k p ds ps f')) (sym z.0.numbers)
+        (built_then (Agree l) (Agree l) _ _ _ _ (generics_of_alike o p z.0 k o.numbers f f' b) (λ g g' c.
+        subst (λ n. AlikeBuilt (Agree l) (with_generics outer inner e actual (k + length o.numbers) os g) (with_generics outer inner e' actual' (k + n) ps g')) (sym (count_same o.numbers))
+        (generics_alike (k + length o.numbers) os ps z.1 g g' c)))
+    generics_alike k _ _ z f f' b = absurd z
 
   -- ---- ports
 
@@ -197,9 +205,10 @@ module _ (l : Link) (numbers : IsApart l) where
   abbrev pub SamePorts : Counted (List Port) → Counted (List Port) → Type 0
   SamePorts x y = (y.it ≡ map port_in x.it) × (y.next ≡ x.next)
 
-  default_same : (inner : Scope) (d : Option (Got Subtype → Env → Got (Value Scalar))) (i : Indicated) (f f' : Env) → Agree l f f' → default_value inner f' (default_in l d) i ≡ default_value inner f d i
-  default_same inner None i f f' b = refl
-  default_same inner (Some d) i f f' b = λ k. evaluated inner (ap (d (Ok i.subtype)) b.same k >>= λ v. got (fit i.subtype v))
+  default_same : (inner : Scope) (d d' : Default) → SameDefault d d' → (i : Indicated) (f f' : Env) → Agree l f f' → default_value inner f' d' i ≡ default_value inner f d i
+  default_same inner None None z i f f' b = refl
+  default_same inner (Some d) (Some d') z i f f' b = λ k. evaluated inner (at l numbers (d (Ok i.subtype)) (d' (Ok i.subtype)) (z (Ok i.subtype)) f f' b k >>= λ v. got (fit i.subtype v))
+  default_same inner _ _ z i f f' b = absurd z
 
   abbrev of_mark : Option ℕ → Env → Got Indicated
   of_mark x f = or_senseless x >>= λ d. Ok (record { subtype = (f.denotes d).subtype; make = (f.denotes d).make })
@@ -216,44 +225,60 @@ module _ (l : Link) (numbers : IsApart l) where
   view_subtype_same views (ByMode m) f = refl
   view_subtype_same views (ByView d k) f = (λ i. marked_by (view_same views d i) f) ∙ marked_same (view_in views d) f
 
-  pub indicated_same : (views : List View) (p : Ports) (f f' : Env) → Agree l f f' → port_indicated (map (view_under l) views) (ports_in l p) f' ≡ port_indicated views p f
-  indicated_same views p f f' b =
-      (λ i. if p.has_subtype then p.objects.indicated (through l f') else view_subtype_same views p.mode f' i) ∙ ap (port_indicated views p) b.same
+  view_subtype_agreed : (views : List View) (m m' : ElementMode) → m' ≡ element_mode_in l m → (f f' : Env) → Agree l f f' → view_subtype (map (view_under l) views) m' f' ≡ view_subtype views m f
+  view_subtype_agreed views m m' h f f' b = (λ i. view_subtype (map (view_under l) views) (h i) f') ∙ view_subtype_same views m f' ∙ ap (view_subtype views m) b.same
+
+  pub indicated_same : (views : List View) (p q : Ports) → AlikePorts l p q → (f f' : Env) → Agree l f f' → port_indicated (map (view_under l) views) q f' ≡ port_indicated views p f
+  indicated_same views p q h f f' b =
+      λ i. if h.has_subtype i then at l numbers p.objects.indicated q.objects.indicated h.objects.indicated f f' b i else view_subtype_agreed views p.mode q.mode h.mode f f' b i
 
   value_then : {A C D : Type 0} (S : C → D → Type 0) (g g' : Built A) (f : A → Built C) (f' : A → Built D) → g' ≡ g → ((x : A) → AlikeBuilt S (f x) (f' x)) → AlikeBuilt S (g >>= f) (g' >>= f')
   value_then S (Ok v) g' f f' e same = subst (λ r. AlikeBuilt S (f v) (r >>= f')) (sym e) (same v)
   value_then S (Err s) g' f f' e same = subst (λ r. AlikeBuilt S (Err s >>= f) (r >>= f')) (sym e) refl
 
   module _ (views : List View) (inner : Scope) (f f' : Env) (b : Agree l f f') where
-    one_port : (p : Ports) (d : ℕ) (name : List ℕ) (m m' : Made) → AlikeMade l m m'
-        → AlikeBuilt SamePort (some_port views inner f p d name m) (some_port (map (view_under l) views) inner f' (ports_in l p) (l.number d) name m')
-    one_port p d name m m' h =
-        evaluated_then SamePort inner (port_indicated views p f) (port_indicated (map (view_under l) views) (ports_in l p) f') _ _ (indicated_same views p f f' b) (λ i.
+    modes_of_port_same : (views : List View) (x : ElementMode) (i : Indicated) → modes_of_port (map (view_under l) views) (element_mode_in l x) i ≡ modes_of_port views x i
+    modes_of_port_same views x i = λ j. if length (port_modes_same views x i j) == size_of_object i then Ok (port_modes_same views x i j) else senseless
+
+    one_port : (p q : Ports) → AlikePorts l p q → (d : ℕ) (name : List ℕ) (m m' : Made) → AlikeMade l m m'
+        → AlikeBuilt SamePort (some_port views inner f p d name m) (some_port (map (view_under l) views) inner f' q (l.number d) name m')
+    one_port p q z d name m m' h =
+        evaluated_then SamePort inner (port_indicated views p f) (port_indicated (map (view_under l) views) q f') _ _ (indicated_same views p q z f f' b) (λ i.
         built_then (AlikeMade l) SamePort (counted (size_of_object i) m) (counted (size_of_object i) m') _ _ (counted_alike l numbers (size_of_object i) m m' h) (λ n n' k.
-        value_then SamePort (default_value inner f p.objects.default i) (default_value inner f' (default_in l p.objects.default) i) _ _ (default_same inner p.objects.default i f f' b) (λ v.
-        ((λ j. record { number = l.number d; name = name; indicated = i; modes = port_modes_same views p.mode i j; initial = leaves v }), k.counted))))
+        value_then SamePort (default_value inner f p.objects.default i) (default_value inner f' q.objects.default i) _ _ (default_same inner p.objects.default q.objects.default z.objects.default i f f' b) (λ v.
+        evaluated_then SamePort inner (first_of_object i v) (first_of_object i v) _ _ refl (λ w.
+        evaluated_then SamePort inner (modes_of_port views p.mode i) (modes_of_port (map (view_under l) views) q.mode i) _ _
+        ((λ j. modes_of_port (map (view_under l) views) (z.mode j) i) ∙ modes_of_port_same views p.mode i) (λ modes. (refl, k.counted))))))
 
     with_count : (m m' : Made) → AlikeMade l m m' → (n n' : ℕ) → n' ≡ n → AlikeMade l (record m { counted = n }) (record m' { counted = n' })
     with_count m m' h n n' e = record { signals = h.signals; counted = e; sources = h.sources; driven = h.driven; processes = h.processes }
 
-    named_ports : (p : Ports) (ds : List ℕ) (names : List (List ℕ)) (m m' : Made) → AlikeMade l m m'
-        → AlikeBuilt SamePorts (ports_named views inner f p ds names m) (ports_named (map (view_under l) views) inner f' (ports_in l p) (map l.number ds) names m')
-    named_ports p [] [] m m' h = (refl, h.counted)
-    named_ports p [] (name ∷ names) m m' h = (refl, h.counted)
-    named_ports p (d ∷ ds) [] m m' h = (refl, h.counted)
-    named_ports p (d ∷ ds) (name ∷ names) m m' h =
-        built_then SamePort SamePorts (some_port views inner f p d name m) _ _ _ (one_port p d name m m' h) (λ x y k.
-        built_then SamePorts SamePorts (ports_named views inner f p ds names (record m { counted = x.next })) _ _ _ (named_ports p ds names _ _ (with_count m m' h x.next y.next k.1)) (λ xs ys j.
+    named_ports : (p q : Ports) → AlikePorts l p q → (ds : List ℕ) (names : List (List ℕ)) (m m' : Made) → AlikeMade l m m'
+        → AlikeBuilt SamePorts (ports_named views inner f p ds names m) (ports_named (map (view_under l) views) inner f' q (map l.number ds) names m')
+    named_ports p q z [] [] m m' h = (refl, h.counted)
+    named_ports p q z [] (name ∷ names) m m' h = (refl, h.counted)
+    named_ports p q z (d ∷ ds) [] m m' h = (refl, h.counted)
+    named_ports p q z (d ∷ ds) (name ∷ names) m m' h =
+        built_then SamePort SamePorts (some_port views inner f p d name m) _ _ _ (one_port p q z d name m m' h) (λ x y k.
+        built_then SamePorts SamePorts (ports_named views inner f p ds names (record m { counted = x.next })) _ _ _ (named_ports p q z ds names _ _ (with_count m m' h x.next y.next k.1)) (λ xs ys j.
         ((λ i. k.0 i ∷ j.0 i), j.1)))
+
+    own_ports : (p q : Ports) → AlikePorts l p q → (m m' : Made) → AlikeMade l m m'
+        → AlikeBuilt SamePorts (ports_named views inner f p p.objects.numbers p.names m) (ports_named (map (view_under l) views) inner f' q q.objects.numbers q.names m')
+    own_ports p q z m m' h =
+        subst (λ ds. AlikeBuilt SamePorts (ports_named views inner f p p.objects.numbers p.names m) (ports_named (map (view_under l) views) inner f' q ds q.names m')) (sym z.objects.numbers)
+        (subst (λ names. AlikeBuilt SamePorts (ports_named views inner f p p.objects.numbers p.names m) (ports_named (map (view_under l) views) inner f' q (map l.number p.objects.numbers) names m')) (sym z.names)
+        (named_ports p q z p.objects.numbers p.names m m' h))
 
     joined_ports : (xs ys : List Port) → map port_in (xs ++ ys) ≡ map port_in xs ++ map port_in ys
     joined_ports [] ys = refl
     joined_ports (x ∷ xs) ys = λ i. port_in x ∷ joined_ports xs ys i
 
-    pub ports_alike : (ps : List Ports) (m m' : Made) → AlikeMade l m m'
-        → AlikeBuilt SamePorts (ports_of views inner f ps m) (ports_of (map (view_under l) views) inner f' (map (ports_in l) ps) m')
-    ports_alike [] m m' h = (refl, h.counted)
-    ports_alike (p ∷ ps) m m' h =
-        built_then SamePorts SamePorts (ports_named views inner f p p.objects.numbers p.names m) _ _ _ (named_ports p p.objects.numbers p.names m m' h) (λ x y k.
-        built_then SamePorts SamePorts (ports_of views inner f ps (record m { counted = x.next })) _ _ _ (ports_alike ps _ _ (with_count m m' h x.next y.next k.1)) (λ xs ys j.
+    pub ports_alike : (ps qs : List Ports) → AllZip (AlikePorts l) ps qs → (m m' : Made) → AlikeMade l m m'
+        → AlikeBuilt SamePorts (ports_of views inner f ps m) (ports_of (map (view_under l) views) inner f' qs m')
+    ports_alike [] [] z m m' h = (refl, h.counted)
+    ports_alike (p ∷ ps) (q ∷ qs) z m m' h =
+        built_then SamePorts SamePorts (ports_named views inner f p p.objects.numbers p.names m) _ _ _ (own_ports p q z.0 m m' h) (λ x y k.
+        built_then SamePorts SamePorts (ports_of views inner f ps (record m { counted = x.next })) _ _ _ (ports_alike ps qs z.1 _ _ (with_count m m' h x.next y.next k.1)) (λ xs ys j.
         ((λ i. k.0 i ++ j.0 i) ∙ sym (joined_ports x.it xs.it), j.1)))
+    ports_alike _ _ z m m' h = absurd z

@@ -4,6 +4,7 @@ pub mod Associating
 pub mod Nesting
 pub mod Facing
 pub mod Cases
+pub mod Instances
 pub mod Trees
 pub mod Designs
 pub mod Behind

@@ -7,25 +7,25 @@ use Rattle.vd_forest.specs.Forest.{Forest, nothing, more}
 use Rattle.vd_rewriting.specs.Forms.{with_forms}
 use Rattle.vd_resolved.specs.declared.node.Resolved.{Resolved}
 use Rattle.vd_composites.specs.Composites.{Value}
-use Rattle.vd_composites.specs.Stops.{◌>>=◌}
 use Rattle.vd_meaning.specs.Tables.{Table, table}
 use Rattle.vd_meaning.specs.Kinds
 use Rattle.vd_elaboration.specs.Building.{Built, State}
-use Rattle.vd_elaboration.specs.Facets.{View, Hierarchy, Unit', EntityUnit, ArchitectureUnit, PackageUnit, Part}
+use Rattle.vd_elaboration.specs.Facets.{View, Hierarchy, Part}
 use Rattle.vd_elaboration.specs.Hierarchies.{EntityText, ArchitectureText, entity_in, architecture_in, hierarchy}
 use Rattle.vd_elaboration.specs.Parts.{kind, node_part, parts}
-use Rattle.vd_elaboration.specs.Elaborations.{package_scope, with_packages, given_actual, Top, top_instance, top_scope, top_elaborated, Elaboration, of_built, Units, units_of, hierarchy_of, beginning, elaborated_with, elaborated_units}
+use Rattle.vd_elaboration.specs.Elaborations.{given_actual, Top, top_instance, top_scope, top_elaborated, Elaboration, of_built, Units, units_of, hierarchy_of, beginning, elaborated_with, elaborated_units}
 use Rattle.vd_meaning_laws.specs.Agreement.{Link, IsApart}
 use Rattle.vd_meaning_laws.specs.Renumbering.{SameTable, AlikeMeaning, renumbered}
 use Rattle.vd_meaning_laws.proofs.Cases.{kind_alike}
 use Rattle.vd_meaning_laws.proofs.Facing.{with_value}
 use Rattle.vd_meaning_laws.proofs.Parts.{none_alike}
-use Rattle.vd_elaboration_laws.specs.Agreement.{view_under, AlikeActual, AlikeInstance, AlikeState, AlikeStates, AlikeHierarchy, AlikeUnit, AlikePart}
+use Rattle.vd_elaboration_laws.specs.Agreement.{view_under, AlikeActual, AlikeInstance, AlikeState, AlikeStates, AlikeHierarchy, AlikePart}
 use Rattle.vd_elaboration_laws.specs.Laws.{PartNodesAlike, PartTreesAlike, generic_in, top_in, AlikeUnits, AlikeElaborations, KeepsGiven, UnitsElaborateAlike, TreesElaborateAlike}
 use Rattle.vd_elaboration_laws.proofs.Built.{built_then}
-use Rattle.vd_elaboration_laws.proofs.Associating.{entity_under, AlikeArchitecture, entity_alike}
+use Rattle.vd_elaboration_laws.proofs.Associating.{AlikeEntity, AlikeArchitecture, entity_alike}
 use Rattle.vd_elaboration_laws.proofs.Nesting.{SameEntity, SameArchitecture, entity_in_alike, architecture_in_alike, hierarchy_alike}
 use Rattle.vd_elaboration_laws.proofs.Cases.{part_alike, gathered_units, gathered_views}
+use Rattle.vd_elaboration_laws.proofs.Instances.{packages_alike, all_views_same}
 
 -- ---- trees
 
@@ -53,25 +53,9 @@ all_trees l numbers t t' tables f = trees_alike l numbers t t' tables f
 -- ---- elaborations
 
 module _ (l : Link) (numbers : IsApart l) where
-  packages_alike : (h k : Hierarchy) → AlikeHierarchy l h k → (us vs : List Unit') → AllZip (AlikeUnit l) us vs → (s t : State) → AlikeState l s t
-      → AlikeStates l (with_packages h us s) (with_packages k vs t)
-  packages_alike h k hs [] [] z s t a = a
-  packages_alike h k hs (PackageUnit own declaring ∷ us) (PackageUnit own' declaring' ∷ vs) z s t a =
-      subst (λ name. AlikeStates l (with_packages h (PackageUnit own declaring ∷ us) s) (declaring' k (package_scope name) t >>= with_packages k vs)) (sym z.0.0)
-      (built_then (AlikeState l) (AlikeState l) _ _ _ _ (z.0.1 h k hs (package_scope own) s t a) (packages_alike h k hs us vs z.1))
-  packages_alike h k hs (EntityUnit own generics ports ∷ us) (EntityUnit own' generics' ports' ∷ vs) z s t a = packages_alike h k hs us vs z.1 s t a
-  packages_alike h k hs (ArchitectureUnit own entity region ∷ us) (ArchitectureUnit own' entity' region' ∷ vs) z s t a = packages_alike h k hs us vs z.1 s t a
-  packages_alike h k hs (EntityUnit own generics ports ∷ us) (ArchitectureUnit own' entity' region' ∷ vs) z s t a = absurd z.0
-  packages_alike h k hs (EntityUnit own generics ports ∷ us) (PackageUnit own' declaring' ∷ vs) z s t a = absurd z.0
-  packages_alike h k hs (ArchitectureUnit own entity region ∷ us) (EntityUnit own' generics' ports' ∷ vs) z s t a = absurd z.0
-  packages_alike h k hs (ArchitectureUnit own entity region ∷ us) (PackageUnit own' declaring' ∷ vs) z s t a = absurd z.0
-  packages_alike h k hs (PackageUnit own declaring ∷ us) (EntityUnit own' generics' ports' ∷ vs) z s t a = absurd z.0
-  packages_alike h k hs (PackageUnit own declaring ∷ us) (ArchitectureUnit own' entity' region' ∷ vs) z s t a = absurd z.0
-  packages_alike h k hs _ _ z s t a = absurd z
-
   given_alike : (gs : List (ℕ × Value Scalar)) → AllZip (AlikeActual l) (map given_actual gs) (map given_actual (map (generic_in l) gs))
   given_alike [] = tt
-  given_alike (g ∷ gs) = (record { formal = refl; meaning = with_value l (none_alike l numbers) (λ _ _. Ok g.1) (λ _ _. Ok g.1) refl }, given_alike gs)
+  given_alike (g ∷ gs) = (record { formal = refl; meaning = with_value l (none_alike l numbers) (λ _ _. Ok g.1) (λ _ _. Ok g.1) (λ known e k. refl) }, given_alike gs)
 
   top_alike : (top : Top) → AlikeInstance l (top_instance top) (top_instance (top_in l top))
   top_alike top = record { label = refl; entity = refl; architecture = refl; generics = given_alike top.generics; ports = tt }
@@ -83,11 +67,11 @@ module _ (l : Link) (numbers : IsApart l) where
   built_alike (Err f) (Ok t) h = absurd h
 
   module _ (views : List View) (h k : Hierarchy) (hs : AlikeHierarchy l h k) (top : Top) where
-    top_states : (entity : EntityText) (a b : ArchitectureText) → AlikeArchitecture l numbers a b → (s t : State) → AlikeState l s t
-        → AlikeStates l (top_elaborated views h top entity a s) (top_elaborated (map (view_under l) views) k (top_in l top) (entity_under l numbers entity) b t)
-    top_states entity a b e s t j =
-        subst (λ name. AlikeStates l (top_elaborated views h top entity a s) (Rattle.vd_elaboration.specs.Hierarchies.entity_elaborated (map (view_under l) views) k (top_scope top name) (top_scope top name) (entity_under l numbers entity) b (top_instance (top_in l top)) 0 t)) (sym e.name)
-        (entity_alike l numbers views h k hs (top_scope top a.name) (top_scope top a.name) entity a b e (top_instance top) (top_instance (top_in l top)) (top_alike top) 0 0 refl s t j)
+    top_states : (c d : EntityText) → AlikeEntity l numbers c d → (a b : ArchitectureText) → AlikeArchitecture l numbers a b → (s t : State) → AlikeState l s t
+        → AlikeStates l (top_elaborated views h top c a s) (top_elaborated (map (view_under l) views) k (top_in l top) d b t)
+    top_states c d z a b e s t j =
+        subst (λ name. AlikeStates l (top_elaborated views h top c a s) (Rattle.vd_elaboration.specs.Hierarchies.entity_elaborated (map (view_under l) views) k (top_scope top name) (top_scope top name) d b (top_instance (top_in l top)) 0 t)) (sym e.name)
+        (entity_alike l numbers views h k hs (top_scope top a.name) (top_scope top a.name) c d z a b e (top_instance top) (top_instance (top_in l top)) (top_alike top) 0 0 refl s t j)
 
   module _ (given : KeepsGiven l) (u v : Units) (z : AlikeUnits l u v) (top : Top) where
     hierarchies_alike : AlikeHierarchy l (hierarchy_of u) (hierarchy (map (view_under l) u.views) v.units 64)
@@ -102,9 +86,8 @@ module _ (l : Link) (numbers : IsApart l) where
     either_top : (x x' : Option EntityText) → SameEntity l numbers x x' → (y y' : Option ArchitectureText) → SameArchitecture l numbers y y'
         → AlikeElaborations l (elaborated_with u top x y) (with_views (map (view_under l) u.views) x' y')
     either_top (Some a) (Some b) e (Some c) (Some d) f =
-        subst (λ b. AlikeElaborations l (elaborated_with u top (Some a) (Some c)) (with_views (map (view_under l) u.views) (Some b) (Some d))) (sym e)
-        (built_alike _ _ (built_then (AlikeState l) (AlikeState l) _ _ _ _ (packages_alike _ _ hierarchies_alike u.units v.units z.units beginning beginning begins)
-        (top_states u.views _ _ hierarchies_alike top a c d f)))
+        built_alike _ _ (built_then (AlikeState l) (AlikeState l) _ _ _ _ (packages_alike l numbers _ _ hierarchies_alike [] [] tt u.units v.units z.units beginning beginning begins)
+        (top_states u.views _ _ hierarchies_alike top a b e c d f))
     either_top None None e y y' f = tt
     either_top (Some a) (Some b) e None None f = tt
     either_top None (Some b) e y y' f = absurd e
@@ -125,4 +108,7 @@ all_elaborations l numbers given r s a b tables e top =
     let h = trees_alike l numbers (table r a.declarations) (table s b.declarations) tables a.units in
     subst (λ f. AlikeElaborations l (elaborated_units (units_of r a) top) (elaborated_units (units_of s (record b { units = f })) (top_in l top))) (sym e)
     (units_alike l numbers given (units_of r a) (units_of s (record b { units = with_forms (renumbered l) a.units }))
-    (record { units = gathered_units l numbers _ _ h; views = gathered_views l numbers _ _ h }) top)
+    (record {
+      units = gathered_units l numbers _ _ h;
+      views = all_views_same l numbers _ _ (gathered_units l numbers _ _ h) _ _ (gathered_views l numbers _ _ h);
+    }) top)

@@ -7,9 +7,9 @@ use Rattle.vd_composites.specs.Composites.{Value}
 use Rattle.vd_environments.specs.Got.{Got}
 use Rattle.vd_environments.specs.Environments.{Env}
 use Rattle.vd_elaboration.specs.Building.{Placed, Made, Built, State}
-use Rattle.vd_elaboration.specs.Facets.{ElementMode, ByMode, ByView, ViewElement, View, Ports, Actual, Instance, Hierarchy, Elaborating, Unit', EntityUnit, ArchitectureUnit, PackageUnit, Part}
-use Rattle.vd_meaning_laws.specs.Agreement.{Link, through, number_in, Agree, AlikeRunning}
-use Rattle.vd_meaning_laws.specs.Renumbering.{AlikeMeaning, objects_in}
+use Rattle.vd_elaboration.specs.Facets.{ElementMode, ByMode, ByView, ViewElement, View, Ports, Generics, Actual, Instance, Hierarchy, Elaborating, PackageText, Unit', EntityUnit, ArchitectureUnit, PackageUnit, Part}
+use Rattle.vd_meaning_laws.specs.Agreement.{Link, number_in, Agree, Alike, AlikeCommands, AlikeRunning}
+use Rattle.vd_meaning_laws.specs.Renumbering.{AlikeMeaning, AlikeObjects, AlikeFormal, pair_in}
 
 -- ---- interfaces with other numbers
 
@@ -23,9 +23,16 @@ element_in l x = record { name = x.name; mode = element_mode_in l x.mode }
 abbrev pub view_under : Link → View → View
 view_under l v = record { view = l.number v.view; mark = number_in l v.mark; elements = map (element_in l) v.elements }
 
-abbrev pub ports_in : Link → Ports → Ports
-ports_in l p =
-    record { names = p.names; objects = objects_in l p.objects; has_subtype = p.has_subtype; named = map l.number p.named; mode = element_mode_in l p.mode }
+pub record AlikePorts (l : Link) (p q : Ports) : Type 0 where
+  pub names : q.names ≡ p.names
+  pub objects : AlikeObjects l p.objects q.objects
+  pub has_subtype : q.has_subtype ≡ p.has_subtype
+  pub named : q.named ≡ map l.number p.named
+  pub mode : q.mode ≡ element_mode_in l p.mode
+
+pub record AlikeGenerics (l : Link) (a b : Generics) : Type 0 where
+  pub objects : AllZip (AlikeObjects l) a.objects b.objects
+  pub defaults : b.defaults ≡ map (map l.number) a.defaults
 
 pub record AlikeActual (l : Link) (a b : Actual) : Type 0 where
   pub formal : b.formal ≡ number_in l a.formal
@@ -75,12 +82,22 @@ AlikeElaborating l f g = (h k : Hierarchy) → AlikeHierarchy l h k → (scope :
 
 -- ---- units and parts
 
+pub record AlikePackage (l : Link) (p q : PackageText) : Type 0 where
+  pub sort : q.sort ≡ p.sort
+  pub name : q.name ≡ p.name
+  pub number : q.number ≡ l.number p.number
+  pub generics : AllZip (AlikeFormal l) p.generics q.generics
+  pub declaring : AlikeElaborating l p.declaring q.declaring
+  pub declarations : AllZip (AlikeCommands l) p.declarations q.declarations
+  pub actuals : Alike l p.actuals q.actuals
+  pub copies : q.copies ≡ map (pair_in l) p.copies
+
 abbrev pub AlikeUnit : Link → Unit' → Unit' → Type 0
 AlikeUnit l (EntityUnit name generics ports) (EntityUnit name' generics' ports') =
-    (name' ≡ name) × (generics' ≡ map (objects_in l) generics) × (ports' ≡ map (ports_in l) ports)
+    (name' ≡ name) × AlikeGenerics l generics generics' × AllZip (AlikePorts l) ports ports'
 AlikeUnit l (ArchitectureUnit name entity region) (ArchitectureUnit name' entity' region') =
     (name' ≡ name) × (entity' ≡ entity) × AlikeElaborating l region region'
-AlikeUnit l (PackageUnit name declaring) (PackageUnit name' declaring') = (name' ≡ name) × AlikeElaborating l declaring declaring'
+AlikeUnit l (PackageUnit p) (PackageUnit q) = AlikePackage l p q
 AlikeUnit l _ _ = ⊥
 
 pub record AlikePart (l : Link) (p q : Part) : Type 0 where
@@ -90,12 +107,13 @@ pub record AlikePart (l : Link) (p q : Part) : Type 0 where
   pub mode : q.mode ≡ element_mode_in l p.mode
   pub elements : q.elements ≡ map (element_in l) p.elements
   pub views : q.views ≡ map (view_under l) p.views
-  pub ports : q.ports ≡ map (ports_in l) p.ports
+  pub ports : AllZip (AlikePorts l) p.ports q.ports
+  pub defaults : q.defaults ≡ map (map l.number) p.defaults
   pub actuals : AllZip (AlikeActual l) p.actuals q.actuals
   pub declaring : AlikeElaborating l p.declaring q.declaring
   pub region : AlikeElaborating l p.region q.region
   pub ahead : (label : List ℕ) → AlikeElaborating l (p.ahead label) (q.ahead label)
   pub elaborating : (label : List ℕ) → AlikeElaborating l (p.elaborating label) (q.elaborating label)
   pub otherwise : (label : List ℕ) (f g : Elaborating) → AlikeElaborating l f g → AlikeElaborating l (p.otherwise label f) (q.otherwise label g)
-  pub cases : (label : List ℕ) (s : Env → Got (Value Scalar)) → AlikeElaborating l (p.cases label s) (q.cases label (λ e. s (through l e)))
+  pub cases : (label : List ℕ) (s s' : Env → Got (Value Scalar)) → Alike l s s' → AlikeElaborating l (p.cases label s) (q.cases label s')
   pub units : AllZip (AlikeUnit l) p.units q.units

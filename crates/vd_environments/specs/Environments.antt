@@ -118,9 +118,10 @@ abbrev pub element_make : Make → Make
 element_make (OfElements index bounds element) = element
 element_make _ = no_make
 
--- of a slice with such bounds
+-- Of a slice with such bounds. The bounds of what is declared inside a process or a function, and so of its slices, are known in elaboration only
+-- where they are known when the text is analysed.
 abbrev pub sliced_make : Static → Make → Make
-sliced_make known (OfElements index bounds element) = OfElements index known element
+sliced_make known (OfElements index bounds element) = OfElements index (record known { is_global = known.is_global && bounds.is_global }) element
 sliced_make known _ = no_make
 
 abbrev pub nth_make : ℕ → Makes → Make
@@ -160,6 +161,20 @@ unknown = senseless
 abbrev pub Function : Type 0
 Function = List Argument → Got (Value Scalar)
 
+-- a subtype with what it is made of
+pub record Indicated : Type 0 where
+  pub subtype : Subtype
+  pub make : Make
+
+-- What an instance has for a generic: of a constant the value where the subtype is known, unless the default stands for it, and how static it is;
+-- of a type the subtype; of a function what it gives, and how static its calls can be.
+pub record GenericActual : Type 0 where
+  pub value : Option Argument
+  pub known : Static
+  pub indicated : Indicated
+  pub function : Function
+  pub calls : Static
+
 -- What a declaration stands for.
 pub record Denotation : Type 0 where
   -- of a constant, a generic, a variable, a parameter: its value
@@ -169,6 +184,8 @@ pub record Denotation : Type 0 where
   pub make : Make
   -- of a function: what it gives for arguments
   pub function : Function
+  -- of a function with generics: the function that an instance with some actuals is
+  pub instance : List GenericActual → Got Function
   -- of a signal or a port: its scalar signals
   pub signals : Option Signals
   -- whether its value is static, and of a function whether calls of it can be
@@ -185,6 +202,7 @@ nothing_denoted =
       subtype = no_subtype;
       make = no_make;
       function = λ _. senseless;
+      instance = λ _. senseless;
       signals = None;
       known = never;
     }
@@ -192,8 +210,8 @@ nothing_denoted =
 -- What each declaration stands for, by its number, and what is seen and driven.
 pub record Env : Type 0 where
   pub denotes : ℕ → Denotation
-  -- of the scalar signals that a process drives, the numbers of its drivers
-  pub drivers : ℕ → ℕ
+  -- of a scalar signal that a process drives, the number of its driver
+  pub drivers : ℕ → Option ℕ
   pub view : View
   -- whether it is inside a process or a function
   pub is_inside : Bool
@@ -232,6 +250,14 @@ with_subtype n s make e = denoting n (record nothing_denoted { subtype = s; make
 abbrev pub with_function : ℕ → Function → Env → Env
 with_function n f e = denoting n (record nothing_denoted { function = f; known = record { is_local = false; is_global = not e.is_inside } }) e
 
+-- a function that is a generic, with what calls of its actual are
+abbrev pub with_actual_function : ℕ → Function → Static → Env → Env
+with_actual_function n f calls e = denoting n (record nothing_denoted { function = f; known = calls }) e
+
+-- a function with generics
+abbrev pub with_instances : ℕ → (List GenericActual → Got Function) → Env → Env
+with_instances n instance e = denoting n (record nothing_denoted { instance = instance }) e
+
 abbrev pub with_signals : ℕ → Subtype → Make → Signals → Env → Env
 with_signals n s make signals e = denoting n (record nothing_denoted { subtype = s; make = make; signals = Some signals }) e
 
@@ -250,11 +276,6 @@ pub record Place : Type 0 where
 
 abbrev pub further : Step → Place → Place
 further step p = record { object = p.object; steps = p.steps ++ step ∷ [] }
-
--- a subtype with what it is made of
-pub record Indicated : Type 0 where
-  pub subtype : Subtype
-  pub make : Make
 
 -- a field of a record type
 pub record Field : Type 0 where

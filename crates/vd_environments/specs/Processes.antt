@@ -1,6 +1,6 @@
 -- Processes: how each is elaborated at its place, and how the kernel runs it, from its start or a wait to the next wait, and at the end of its
 -- statements from their beginning. (IEEE 1076, process statement; wait statement; drivers; elaboration of processes.)
-use Rattle.std.specs.Prelude.{ℕ, suc, ◌+◌, ◌==◌, Bool, true, List, [], ◌∷◌, ◌++◌, map, Option, Some, None, Ok, Err, if◌then◌else◌}
+use Rattle.std.specs.Prelude.{ℕ, suc, ◌==◌, Bool, true, List, [], ◌∷◌, ◌++◌, map, Option, Some, None, Ok, Err, if◌then◌else◌}
 use Rattle.std.specs.List.{list_any, flat_map}
 use Rattle.vd_values.specs.declared.scalar.StopKind.{StopKind}
 use Rattle.vd_values.specs.declared.scalar.StopKind.TheVariants as kind
@@ -84,6 +84,8 @@ model shape ps = record { shape = shape; processes = ps; step = step }
 -- list has none of its own.
 pub record Process : Type 0 where
   pub declarations : List Command
+  -- what is declared for its names, which are evaluated before its declarations are
+  pub settling : Env → Env
   pub statements : Command
   pub sensitivity : Option (Env → Got (List Signals))
   -- the longest static prefixes of the targets of its signal assignments, in the order of the text
@@ -101,19 +103,19 @@ once before (n ∷ ns) = if list_any (λ m. m == n) before then once before ns e
 abbrev pub driven_by : List Signals → List ℕ
 driven_by targets = once [] (numbers_of targets)
 
-abbrev pub place_in_list : List ℕ → ℕ → ℕ
-place_in_list [] n = 0
-place_in_list (m ∷ ms) n = if m == n then 0 else suc (place_in_list ms n)
+-- of these, of which the first has a number, the number of one
+abbrev pub place_from : ℕ → List ℕ → ℕ → Option ℕ
+place_from k [] n = None
+place_from k (m ∷ ms) n = if m == n then Some k else place_from (suc k) ms n
 
--- What is declared so far, where what stops declares nothing. A locally static constant never stops, nor does what it depends on: so an index of a
--- target or of a name in a list, which is evaluated before the declarations of the process, has its value there.
+-- What a declaration declares for the names of its process, where one that stops declares nothing. An index of a target or of a name in a list has
+-- its value there if it is locally static, although the declarations come later: neither the constants in it stop, nor the subtypes whose bounds it has.
 abbrev pub declared_by : End → Env → Env
 declared_by (Ends f) e = f
 declared_by _ e = e
 
-abbrev pub settled : List Command → Env → Env
-settled [] e = e
-settled (c ∷ cs) e = settled cs (declared_by (run c e).end e)
+abbrev pub settled_by : Command → Env → Env
+settled_by c e = declared_by (run c e).end e
 
 abbrev pub names_of : Option (Env → Got (List Signals)) → Env → Got (List Signals)
 names_of None e = Ok []
@@ -145,13 +147,13 @@ abbrev pub started : Env → Command → Running
 started e body = record { env = e; body = body; rest = Skip; until = λ _. Ok true; on = []; timeout = None }
 
 abbrev pub with_drivers : ℕ → List ℕ → Env → Env
-with_drivers first driven e = record (inside e) { drivers = λ n. first + place_in_list driven n }
+with_drivers first driven e = record (inside e) { drivers = place_from first driven }
 
 -- Elaboration of a process at its place: the names that it is sensitive to, then its targets, then its declarations. The first of its drivers
 -- has this number.
 abbrev pub elaborated : ℕ → Process → Env → Got Elaborated
 elaborated first p e =
-    names_of p.sensitivity (settled p.declarations (inside e)) >>= λ names.
-    p.targets (settled p.declarations (inside e)) >>= λ targets.
+    names_of p.sensitivity (p.settling (inside e)) >>= λ names.
+    p.targets (p.settling (inside e)) >>= λ targets.
     declared p.declarations (with_drivers first (driven_by targets) e) >>= λ f.
     Ok (record { running = started f (body_of p.statements p.sensitivity names); driven = driven_by targets })

@@ -8,12 +8,12 @@ use Rattle.vd_regions.specs.Scopes.{Scopes, first_place}
 -- a declaration of a class and a name, with a type and parameters
 abbrev pub declared : Class → List ℕ → Option ℕ → List ℕ → Declaration
 declared c name mark parameters =
-    record { class = c; name = name; mark = mark; parameters = parameters; inside = None; place = first_place; made = made.Written; wanted = name }
+    record { class = c; name = name; mark = mark; parameters = parameters; generics = []; inside = None; place = first_place; made = made.Written; wanted = name }
 
 -- a library or a package
 abbrev pub unit : Class → List ℕ → ℕ → Declaration
 unit c name inside =
-    record { class = c; name = name; mark = None; parameters = []; inside = Some inside; place = first_place; made = made.Written; wanted = name }
+    record { class = c; name = name; mark = None; parameters = []; generics = []; inside = Some inside; place = first_place; made = made.Written; wanted = name }
 
 -- one declaration more
 abbrev pub with_entry : Scopes → ℕ → Declaration → Scopes

@@ -40,6 +40,7 @@ fn declaration(
         name,
         mark,
         parameters: Declarations::of(parameters),
+        generics: Declarations::of(Vec::new(alloc)),
         inside: None,
         place: Place {
             file: 0,

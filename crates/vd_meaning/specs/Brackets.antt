@@ -1,5 +1,5 @@
 -- Lists in brackets: arguments of calls, indexes and slices, aggregates. (IEEE 1076, function calls; aggregates; indexed names; slice names.)
-use Rattle.std.specs.Prelude.{ℕ, zero, suc, ℤ, pos, Bool, true, false, not, List, [], ◌∷◌, ◌++◌, map, filter, Option, Some, None, Ok, if◌then◌else◌}
+use Rattle.std.specs.Prelude.{ℕ, zero, suc, ℤ, pos, Bool, true, false, not, ◌&&◌, List, [], ◌∷◌, ◌++◌, map, filter, Option, Some, None, Ok, if◌then◌else◌}
 use Rattle.std.specs.List.{list_any}
 use Rattle.vd_values.specs.declared.scalar.Scalar.{Scalar}
 use Rattle.vd_composites.specs.declared.ranges.Bounds.{Bounds}
@@ -12,10 +12,10 @@ use Rattle.vd_composites.specs.Concatenations.{array_on}
 use Rattle.vd_composites.specs.Aggregates.{named_bounds, bounds_with_others, first_positions, chosen_indexes, other_indexes, array_from, record_from}
 use Rattle.vd_resolved.specs.declared.node.Resolved.{Resolved}
 use Rattle.vd_environments.specs.Got.{Got, got, senseless, all_got}
-use Rattle.vd_environments.specs.Environments.{Signals, Static, always, both, only_global, Argument, Env, or_senseless, unknown}
-use Rattle.vd_meaning.specs.Tables.{Table, Role, FunctionRole, MarkRole, role_of, same_type, followed, is_predefined}
+use Rattle.vd_environments.specs.Environments.{Signals, Static, always, both, all_static, only_global, Argument, Env, or_senseless, unknown}
+use Rattle.vd_meaning.specs.Tables.{Table, Role, FunctionRole, MarkRole, role_of, same_type, followed, is_predefined, is_vector}
 use Rattle.vd_meaning.specs.Operators.{Operation, Edge, operation, edge, marked}
-use Rattle.vd_meaning.specs.Names.{Named, Callee, NoCallee, Attributed, fresh, call, conversion, conversion_of, stepped, to_element, to_slice, type_attribute_value, number_or, and_read, bounds_of_subtype, nth_subtype, position_in}
+use Rattle.vd_meaning.specs.Names.{Named, Callee, NoCallee, Attributed, fresh, call, qualified, conversion_of, stepped, to_element, to_slice, type_attribute_value, number_or, and_read, bounds_of_subtype, nth_subtype, position_in}
 use Rattle.vd_meaning.specs.Facets.{Meaning, nth, value_of, known_of, reads_of, Association, Positional, ByChoices, ForOthers, Choice}
 
 -- ---- choices
@@ -27,6 +27,14 @@ choice_bounds None value e = value e >>= position_in >>= λ i. Ok (record { left
 
 abbrev pub choice_of : Meaning → Choice
 choice_of m = record { named = m.declaration; position = m.position; bounds = choice_bounds m.range (value_of m) }
+
+-- A choice with a type is an expression or a range. One without names a field, a parameter or a port, or is `others`, and makes nothing less static.
+abbrev pub choice_known : Option ℕ → (Env → Static) → Env → Static
+choice_known None known e = always
+choice_known (Some mark) known e = known e
+
+abbrev pub choices_known : List Meaning → Env → Static
+choices_known ms e = all_static (map (λ m. choice_known m.mark m.known e) ms)
 
 abbrev pub ranges_of : List Choice → Env → Got (List Bounds)
 ranges_of cs e = all_got (map (λ c. c.bounds e) cs)
@@ -82,11 +90,16 @@ abbrev pub element_or_slice : Option (Env → Got Bounds) → Resolved → List 
 element_or_slice (Some range) n ms p = stepped (to_slice range (nth 0 ms).known (nth 0 ms).reads) n.mark p
 element_or_slice None n ms p = stepped (to_element (value_of (nth 0 ms)) (nth 0 ms).known (nth 0 ms).reads) n.mark p
 
+-- whether both the mark and the type of the operand are vector types
+abbrev pub is_between_vectors : (mark operand : Option ℕ) → Bool
+is_between_vectors mark operand = is_vector (number_or mark) && is_vector (number_or operand)
+
 abbrev pub by_role : Role → Table → Resolved → List Meaning → Named → Named
 by_role FunctionRole t n ms p =
     called_with (operation_called t (followed t (number_or n.declaration))) t (followed t (number_or n.declaration)) n ms p
 by_role MarkRole t n ms p =
-    conversion_of (number_or n.declaration) n.mark (value_of (nth 0 ms)) (nth 0 ms).known (argument_read p ms) (nth 0 ms).name
+    conversion_of (is_between_vectors n.declaration (nth 0 ms).mark) (number_or n.declaration) n.mark (value_of (nth 0 ms)) (nth 0 ms).known (argument_read p ms)
+    (nth 0 ms).name
 by_role _ t n ms p = element_or_slice (nth 0 ms).range n ms p
 
 abbrev pub by_callee : Callee → Table → Resolved → List Meaning → Named → Named
@@ -235,4 +248,4 @@ bracketed_known ms e = only_global (known_of ms e)
 -- a qualified expression: the mark gives the subtype
 abbrev pub qualification_piece : Table → Resolved → List Meaning → Named → Named
 qualification_piece t n ms p =
-    conversion (number_or n.declaration) n.mark (λ e. bracketed_value n.mark ms (Ok (e.denotes (number_or n.declaration)).subtype) e) (bracketed_known ms) (argument_read p ms)
+    qualified (number_or n.declaration) n.mark (λ e. bracketed_value n.mark ms (Ok (e.denotes (number_or n.declaration)).subtype) e) (bracketed_known ms) (argument_read p ms)

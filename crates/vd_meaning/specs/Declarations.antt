@@ -1,5 +1,5 @@
 -- What declarations declare. (IEEE 1076, declarations; types; subtypes; elaboration of declarations.)
-use Rattle.std.specs.Prelude.{ℕ, Bool, true, false, not, ◌&&◌, List, [], ◌∷◌, ◌++◌, length, map, Option, Some, None, Ok, if◌then◌else◌}
+use Rattle.std.specs.Prelude.{ℕ, Bool, true, false, not, ◌&&◌, List, [], ◌∷◌, ◌++◌, length, map, Option, Some, None, Ok, Err, if◌then◌else◌}
 use Rattle.vd_values.specs.declared.scalar.Scalar.{Scalar}
 use Rattle.vd_composites.specs.declared.ranges.Bounds.{Bounds}
 use Rattle.vd_composites.specs.declared.scalars.ScalarType.{ScalarType}
@@ -11,8 +11,9 @@ use Rattle.vd_composites.specs.Composites.{Value}
 use Rattle.vd_composites.specs.Subtypes.{Subtype, Scalars, Arrays, Records, Subtypes, no_more, and_more, fit, default_of, constrained}
 use Rattle.vd_environments.specs.Got.{Got, got}
 use Rattle.vd_environments.specs.Environments.{Static, always, never, OfScalar, OfElements, OfFields, Makes, no_makes, and_make, Make, made_narrower, own_bounds, all_bounds, literals_of, Env, with_object, with_subtype, with_function, Indicated, Field, or_senseless}
-use Rattle.vd_environments.specs.Commands.{Command, Skip, acting}
+use Rattle.vd_environments.specs.Commands.{Command, acting}
 use Rattle.vd_environments.specs.Functions.{Parameter, called}
+use Rattle.vd_environments.specs.Processes.{settled_by}
 use Rattle.vd_meaning.specs.Names.{scalars_of, scalar_type}
 use Rattle.vd_meaning.specs.Facets.{Meaning, Objects, Body}
 
@@ -116,18 +117,29 @@ new_constants ns indicated m =
 abbrev pub new_variables : List ℕ → Meaning → Meaning → Command
 new_variables ns indicated m = acting (λ e. indicated.indicated e >>= λ i. initial_value m i e >>= λ v. Ok (with_objects ns i v never e))
 
+-- For the names of their process, which are evaluated before: an object whose initial value stops has the leftmost value of its subtype, and isn't
+-- static. So attributes of its bounds are what they are with any other value. A subtype that stops declares nothing.
+abbrev pub with_settled : List ℕ → Indicated → Got (Value Scalar) → Static → Env → Env
+with_settled ns i (Ok v) known e = with_objects ns i v known e
+with_settled ns i (Err s) known e = with_objects ns i (default_of i.subtype) never e
+
+abbrev pub settled_constants : List ℕ → Meaning → Meaning → Env → Env
+settled_constants ns indicated m =
+    settled_by (acting (λ e. indicated.indicated e >>= λ i. Ok (with_settled ns i (initial_value m i e) (constant_known (m.known e) i e) e)))
+
+abbrev pub settled_variables : List ℕ → Meaning → Meaning → Env → Env
+settled_variables ns indicated m =
+    settled_by (acting (λ e. indicated.indicated e >>= λ i. Ok (with_settled ns i (initial_value m i e) never e)))
+
 abbrev pub new_objects : List ℕ → Meaning → Meaning → Objects
 new_objects ns indicated m =
-    record { numbers = ns; indicated = indicated.indicated; default = if m.is_present then Some m.value else None }
+    record { numbers = ns; indicated = indicated.indicated; default = if m.is_present then Some m.value else None; known = m.known }
 
 -- ---- functions
 
 abbrev pub parameters_for : List ℕ → Meaning → List Parameter
 parameters_for ns indicated = map (λ n. record { object = n; indicated = indicated.indicated }) ns
 
--- A function sees what stands round its body. One with generics is declared by its instances.
+-- A function sees what stands round its body.
 abbrev pub new_function : Body → Command
 new_function b = acting (λ e. Ok (with_function b.function (called b.parameters (b.result e) b.statements e) e))
-
-abbrev pub function_command : Bool → Body → Command
-function_command has_generics b = if has_generics then Skip else new_function b

@@ -9,10 +9,10 @@ use Rattle.vd_composites.specs.Subtypes.{Subtype}
 use Rattle.vd_vectors.specs.declared.logics.LogicType.{LogicType}
 use Rattle.vd_resolved.specs.declared.node.Resolved.{Resolved}
 use Rattle.vd_environments.specs.Got.{Got, senseless}
-use Rattle.vd_environments.specs.Environments.{Signals, Static, never, all_static, Argument, Env, Indicated, Field, unknown}
+use Rattle.vd_environments.specs.Environments.{Signals, Static, never, all_static, Argument, GenericActual, Env, Indicated, Field, unknown}
 use Rattle.vd_environments.specs.Commands.{Command, Skip}
 use Rattle.vd_environments.specs.Functions.{Parameter}
-use Rattle.vd_environments.specs.Processes.{Process}
+use Rattle.vd_environments.specs.Processes.{Process, settled_by}
 use Rattle.vd_meaning.specs.Names.{Named, no_name, all_read}
 
 -- a value, where a subtype is known of it, and when an assignment of it takes place
@@ -42,11 +42,26 @@ pub record Objects : Type 0 where
   pub numbers : List ℕ
   pub indicated : Env → Got Indicated
   pub default : Option (Got Subtype → Env → Got (Value Scalar))
+  -- how static the default is
+  pub known : Env → Static
 
--- a function, for instances of it
+-- a generic, or several constants that are declared together
+pub data Formal : Type 0 where
+  FormalConstants : (objects : Objects) → Formal
+  FormalType : (number : ℕ) → Formal
+  FormalFunction : (number : ℕ) → Formal
+
+-- an element of a generic map: the generic that it names, and its actual
+pub record MapElement : Type 0 where
+  pub formal : Option ℕ
+  pub is_open : Bool
+  pub value : Got Subtype → Env → Got (Value Scalar)
+  pub known : Env → Static
+
+-- a function: its generics, its parameters, the subtype of its result, its declarations and statements
 pub record Body : Type 0 where
   pub function : ℕ
-  pub generics : List Objects
+  pub generics : List Formal
   pub parameters : List Parameter
   pub result : Env → Subtype
   pub statements : Command
@@ -86,6 +101,11 @@ pub record Meaning : Type 0 where
   pub numbers : List ℕ
   pub objects : List Objects
   pub parameters : List Parameter
+  -- of a generic clause, of a generic map, and of an instance of a package: what stands for the generics, and which of its declarations stands for which of the package
+  pub formals : List Formal
+  pub elements : List MapElement
+  pub actuals : Env → List GenericActual
+  pub copies : List (ℕ × ℕ)
   -- of a statement with a label, or of a declaration
   pub command : Option ℕ → Command
   -- of the branches of an `if`, where they aren't taken something else is done
@@ -94,7 +114,8 @@ pub record Meaning : Type 0 where
   pub cases : Comparison → (Env → Got (Value Scalar)) → Command
   -- of declarations, one after the other
   pub declarations : List Command
-  pub bodies : List Body
+  -- of one or several, what they declare for the names of their process, which are evaluated before them
+  pub settling : Env → Env
   -- the longest static prefixes of the targets of signal assignments, in order
   pub targets : Env → Got (List Signals)
   -- of the sensitivity of a process that reads some signals
@@ -128,11 +149,15 @@ no_meaning =
       numbers = [];
       objects = [];
       parameters = [];
+      formals = [];
+      elements = [];
+      actuals = λ _. [];
+      copies = [];
       command = λ _. Skip;
       otherwise = λ c. c;
       cases = λ _ _. Skip;
       declarations = [];
-      bodies = [];
+      settling = λ e. e;
       targets = λ _. Ok [];
       listening = λ _. None;
       processes = [];
@@ -170,6 +195,11 @@ targets_of ms = all_read (map (λ m. m.targets) ms)
 abbrev pub known_of : List Meaning → Env → Static
 known_of ms e = all_static (map (λ m. m.known e) ms)
 
+-- what declarations declare for the names of their process, one after the other
+abbrev pub settled_of : List Meaning → Env → Env
+settled_of [] e = e
+settled_of (m ∷ ms) e = settled_of ms (m.settling e)
+
 -- a value where nothing is known of its subtype
 abbrev pub value_of : Meaning → Env → Got (Value Scalar)
 value_of m e = m.value unknown e
@@ -201,4 +231,4 @@ expression n text ms value known =
     record (of_node n text ms) { value = value; known = known; chosen = λ act. act (at_once value) }
 
 abbrev pub commanding : Resolved → List Meaning → Command → Meaning
-commanding n ms c = record (of_node n [] ms) { command = λ _. c }
+commanding n ms c = record (of_node n [] ms) { command = λ _. c; settling = settled_by c }

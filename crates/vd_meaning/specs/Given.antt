@@ -94,7 +94,7 @@ elaborating initial = record { time = 0; value = initial; shown = initial; befor
 -- the environment of all units, where signals have these initial values
 abbrev pub given_env : (ℕ → Scalar) → Env
 given_env initial =
-    record { denotes = denoted_in marks; drivers = λ n. n; view = elaborating initial; is_inside = false; result = no_subtype }
+    record { denotes = denoted_in marks; drivers = λ _. None; view = elaborating initial; is_inside = false; result = no_subtype }
 
 -- so many declarations are given
 pub record GivenCounted : Type 0 where

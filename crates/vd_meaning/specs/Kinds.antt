@@ -54,6 +54,13 @@ pub data Kind : Type 0 where
   Parameters : Kind
   NewFunction : Kind
   Declarations : Kind
+  -- generics and instances
+  NewGenerics : Kind
+  NewGenericType : Kind
+  NewGenericFunction : Kind
+  GenericActuals : Kind
+  NewInstance : Kind
+  NewPackageInstance : Kind
   -- waveforms, and values with conditions
   Transported : Kind
   Delayed : Kind
@@ -183,13 +190,19 @@ kind form.ConstantDeclaration = NewConstants
 kind form.VariableDeclaration = NewVariables
 kind form.SignalDeclaration = NewSignals
 kind form.PortDeclaration = NewPorts
-kind form.GenericConstant = NewPorts
 kind form.GenericClause = Interfaces
 kind form.PortClause = Interfaces
 kind form.ParameterList = Interfaces
 kind form.ParameterDeclaration = Parameters
 kind form.FunctionBody = NewFunction
 kind form.DeclarativePart = Declarations
+-- generics and instances
+kind form.GenericConstant = NewGenerics
+kind form.GenericType = NewGenericType
+kind form.GenericFunction = NewGenericFunction
+kind form.GenericMap = GenericActuals
+kind form.FunctionInstantiation = NewInstance
+kind form.PackageInstantiation = NewPackageInstance
 -- waveforms
 kind form.Transport = Transported
 kind form.DelayedWaveform = Delayed

@@ -6,6 +6,7 @@ pub mod Facets
 pub mod Brackets
 pub mod Statements
 pub mod Declarations
+pub mod Generics
 pub mod Kinds
 pub mod Meanings
 pub mod Given

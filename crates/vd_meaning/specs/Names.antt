@@ -1,17 +1,18 @@
 -- Names, piece by piece. (IEEE 1076, names: simple, selected, indexed, slice and attribute names; function calls; type conversions; qualified
 -- expressions.) A name is a first identifier and then pieces behind it. What it stands for up to one of them is made of what it stands for up
 -- to the one before.
-use Rattle.std.specs.Prelude.{ℕ, zero, suc, ℤ, Bool, true, false, ◌&&◌, ◌||◌, List, [], ◌∷◌, ◌++◌, Option, Some, None, Ok, is_some, slice_get, bytes_eq, codes, if◌then◌else◌}
+use Rattle.std.specs.Prelude.{ℕ, zero, suc, ℤ, Bool, true, false, ◌&&◌, ◌||◌, List, [], ◌∷◌, ◌++◌, Option, Some, None, Ok, Err, is_some, slice_get, bytes_eq, codes, if◌then◌else◌}
 use Rattle.std.specs.List.{list_any}
 use Rattle.vd_values.specs.declared.scalar.Scalar.{Scalar}
 use Rattle.vd_values.specs.declared.scalar.Scalar.TheVariants.{Literal}
+use Rattle.vd_values.specs.declared.scalar.StopKind.TheVariants.{Index}
 use Rattle.vd_composites.specs.declared.ranges.Bounds.{Bounds}
 use Rattle.vd_composites.specs.declared.scalars.ScalarType.{ScalarType}
 use Rattle.vd_composites.specs.declared.scalars.ScalarSubtype.{ScalarSubtype}
 use Rattle.vd_composites.specs.Stops.{◌>>=◌}
 use Rattle.vd_composites.specs.Scalars.{position_of}
-use Rattle.vd_composites.specs.Composites.{Value, One, Array, none, bounds_of, scalar_of, leaves}
-use Rattle.vd_composites.specs.Parts.{Step, AtIndex, AtSlice, AtField, part, reached}
+use Rattle.vd_composites.specs.Composites.{Value, One, Array, Items, none, item, bounds_of, scalar_of, leaves}
+use Rattle.vd_composites.specs.Parts.{Step, AtIndex, AtSlice, AtField, part, reached, is_slice}
 use Rattle.vd_composites.specs.Subtypes.{Subtype, Scalars, Arrays, Records, Subtypes, no_more, and_more}
 use Rattle.vd_subtypes.specs.Heads.{head_of}
 use Rattle.vd_vectors.specs.Logics.{truth}
@@ -24,9 +25,9 @@ use Rattle.vd_operators.specs.Applied.{applied}
 use Rattle.vd_operators.specs.Attributes.{array_range}
 use Rattle.vd_operators.specs.Texts.{text}
 use Rattle.vd_resolved.specs.declared.node.Resolved.{Resolved}
-use Rattle.vd_environments.specs.Got.{Got, got, senseless, is_got}
+use Rattle.vd_environments.specs.Got.{Got, got, stop, senseless, is_got}
 use Rattle.vd_environments.specs.Environments.{Signals, read, Static, always, never, both, only_global, is_static, Make, sliced_make, no_make, own_bounds, element_make, field_make, all_bounds, literals_of, Argument, Env, Place, further, or_senseless}
-use Rattle.vd_meaning.specs.Tables.{Table, Role, ConstantRole, VariableRole, SignalRole, LiteralRole, FunctionRole, MarkRole, ElementRole, NoRole, role_of, same_type, followed}
+use Rattle.vd_meaning.specs.Tables.{Table, Role, ConstantRole, VariableRole, SignalRole, LiteralRole, FunctionRole, MarkRole, ElementRole, NoRole, role_of, same_type, followed, is_vector}
 use Rattle.vd_meaning.specs.Operators.{function_of, literal_of, marked, is_local_operator}
 
 -- ---- what a name stands for
@@ -225,10 +226,13 @@ fresh value mark known inner =
       inner = inner;
     }
 
--- what an operator may be in a static expression, and a function outside of processes and functions
+-- How static calls of a function can be: of an operator by the language; what is written outside of processes and functions is known in elaboration.
+abbrev pub calls_known : Table → ℕ → Env → Static
+calls_known t n e =
+    if is_local_operator t n then always else (if Rattle.vd_meaning.specs.Tables.is_predefined t n then only_global always else (e.denotes n).known)
+
 abbrev pub call_known : Table → ℕ → Static → Env → Static
-call_known t n s e =
-    if is_local_operator t n then s else (if Rattle.vd_meaning.specs.Tables.is_predefined t n then only_global s else only_global (both (e.denotes n).known s))
+call_known t n s e = both (calls_known t n e) s
 
 abbrev pub call : Table → ℕ → (Env → List Argument) → Option ℕ → (Env → Static) → (Env → Got (List Signals)) → Named
 call t n arguments mark known inner =
@@ -259,21 +263,25 @@ first_piece t n = standing t (role_of t n.declaration) (number_or n.declaration)
 
 -- ---- parts of objects and values
 
--- A step from a name to a part of what it stands for: the step, how static it is, what it reads; of the part the subtype and what it is made of.
+-- A step from a name to a part of what it stands for: the step, how static it is, what it reads; of the part the subtype and what it is made of, and
+-- its bounds by those of the whole and its subtype.
 pub record Stepping : Type 0 where
   pub to : Env → Got Step
   pub known : Env → Static
   pub inner : Env → Got (List Signals)
   pub subtype : Env → Subtype → Got Subtype
   pub make : Env → Make → Make
+  pub shape : Env → Got Bounds → Subtype → Got Bounds
 
 abbrev pub part_value : Option (Env → Got Signals) → (Env → Got Signals) → (Env → Got (Value Scalar)) → Env → Got (Value Scalar)
 part_value None signals value e = value e
 part_value (Some prefix) signals value e = signals e >>= read e.view
 
-abbrev pub part_shape : Option (Env → Got Signals) → (Env → Got Signals) → (Env → Got (Value Scalar)) → Env → Got Bounds
-part_shape None signals value e = value e >>= shape_of_value
-part_shape (Some prefix) signals value e = signals e >>= shape_of_value
+-- The bounds of an element or a field of an object are those of its subtype, whatever the index is, and so they are static where the subtype is. A
+-- part of another value has those of the value.
+abbrev pub shape_behind : Got Subtype → Stepping → Got Bounds → (Env → Got (Value Scalar)) → Env → Got Bounds
+shape_behind (Ok s) step whole value e = step.shape e whole s
+shape_behind (Err halt) step whole value e = value e >>= shape_of_value
 
 abbrev pub part_signals : Named → Stepping → Env → Got Signals
 part_signals p s e = p.signals e >>= λ v. s.to e >>= λ to. got (part to v)
@@ -289,6 +297,11 @@ abbrev pub part_prefix : Named → Stepping → Option (Env → Got Signals) →
 part_prefix p s None = None
 part_prefix p s (Some prefix) = Some (λ e. prefix e >>= λ v. if goes_on p s e then (s.to e >>= λ to. got (part to v)) else Ok v)
 
+-- a part of a signal is one, and a part of another name none
+abbrev pub where_signal : {A : Type 0} → Option (Env → Got Signals) → A → A → A
+where_signal None other part = other
+where_signal (Some prefix) other part = part
+
 -- a part of a variable, which is there
 abbrev pub part_place : Env → Place → Got Place
 part_place e p = got (reached p.steps (e.denotes p.object).value) >>= λ v. Ok p
@@ -298,14 +311,14 @@ stepped s mark p =
     record no_name {
       value = part_value p.prefix (part_signals p s) (part_of_value p s);
       place = λ e. p.place e >>= λ at. s.to e >>= λ to. part_place e (further to at);
-      signals = part_signals p s;
-      shape = part_shape p.prefix (part_signals p s) (part_of_value p s);
+      signals = where_signal p.prefix (λ _. senseless) (part_signals p s);
+      shape = λ e. shape_behind (p.subtype e) s (p.shape e) (part_of_value p s) e;
       subtype = λ e. p.subtype e >>= s.subtype e;
       make = λ e. s.make e (p.make e);
       mark = mark;
       known = λ e. only_global (both (p.known e) (s.known e));
       prefix = part_prefix p s p.prefix;
-      is_whole = goes_on p s;
+      is_whole = where_signal p.prefix (λ _. false) (goes_on p s);
       inner = λ e. and_read (p.inner e) (s.inner e);
     }
 
@@ -317,6 +330,7 @@ to_field n =
       inner = λ _. Ok [];
       subtype = λ _ s. field_subtype n s;
       make = λ _ m. field_make n m;
+      shape = λ _ _ s. field_subtype n s >>= bounds_of_subtype;
     }
 
 -- to an element, by an index with a value
@@ -328,7 +342,12 @@ to_element index known inner =
       inner = inner;
       subtype = λ _ s. element_of_subtype s;
       make = λ _ m. element_make m;
+      shape = λ _ _ s. element_of_subtype s >>= bounds_of_subtype;
     }
+
+-- a slice goes in the direction of the whole, and one that isn't null lies within it
+abbrev pub sliced_bounds : Bounds → Bounds → Got Bounds
+sliced_bounds whole b = if is_slice whole b then Ok b else stop Index
 
 abbrev pub to_slice : (Env → Got Bounds) → (Env → Static) → (Env → Got (List Signals)) → Stepping
 to_slice range known inner =
@@ -338,6 +357,7 @@ to_slice range known inner =
       inner = inner;
       subtype = λ e s. range e >>= λ b. sliced_subtype b s;
       make = λ e m. sliced_make (known e) m;
+      shape = λ e whole _. whole >>= λ w. range e >>= sliced_bounds w;
     }
 
 -- ---- attributes
@@ -403,7 +423,12 @@ abbrev pub attributed : Attribute → Option ℕ → Named → Named
 attributed (BoundAt side) mark p = fresh (bound_value side mark p) mark (bounds_known p) (attribute_read false p)
 attributed LengthOf mark p = fresh (length_value p) mark (bounds_known p) (attribute_read false p)
 attributed (RangeOf backwards) mark p =
-    record no_name { range = Some (range_value backwards mark p); mark = mark; known = bounds_known p; inner = attribute_read false p }
+    record no_name {
+      range = Some (range_value backwards mark p);
+      mark = mark;
+      known = λ e. unless_stopped (range_value backwards mark p e) (bounds_known p e);
+      inner = attribute_read false p;
+    }
 attributed EventOf mark p = fresh (event_value p) mark (λ _. never) (attribute_read true p)
 attributed (OfType attribute) mark p = record p { callee = Attributed attribute; mark = mark; is_mark = true }
 attributed NoAttribute mark p = no_name
@@ -425,17 +450,41 @@ type_attribute_value a p argument e = p.subtype e >>= scalars_of >>= λ s. argum
 
 -- ---- conversions and qualified expressions
 
--- the value made one of a subtype
+-- each element made one of its subtype, from the left
+abbrev pub all_converted : (Value Scalar → Got (Value Scalar)) → Items Scalar → Got (Items Scalar)
+all_converted go none = Ok none
+all_converted go (item v vs) = go v >>= λ w. all_converted go vs >>= λ ws. Ok (item w ws)
+
+abbrev pub with_elements : (Value Scalar → Got (Value Scalar)) → Value Scalar → Got (Value Scalar)
+with_elements go (Array b vs) = all_converted go vs >>= λ ws. Ok (Array b ws)
+with_elements go v = Ok v
+
+abbrev pub whole_converted : Subtype → Value Scalar → Got (Value Scalar)
+whole_converted s v = got (applied (Unary (one.Conversion (head_of s))) (v ∷ []))
+
+-- The value made one of a subtype: its own range, bounds or length, and then its elements, which may have other bounds in another array type.
 abbrev pub converted : Subtype → Value Scalar → Got (Value Scalar)
-converted s v = got (applied (Unary (one.Conversion (head_of s))) (v ∷ []))
+converted (Arrays index bounds element) v = whole_converted (Arrays index bounds element) v >>= with_elements (converted element)
+converted s v = whole_converted s v
 
 -- as static as what it converts and all bounds of the mark
 abbrev pub conversion_known : ℕ → (Env → Static) → Env → Static
 conversion_known d known e = both (all_bounds (e.denotes d).make) (known e)
 
--- A conversion of the name of a signal is still made of its scalar signals, which matters in associations.
-abbrev pub conversion : ℕ → Option ℕ → (Env → Got (Value Scalar)) → (Env → Static) → (Env → Got (List Signals)) → Named
-conversion d mark operand known inner = fresh (λ e. operand e >>= converted (e.denotes d).subtype) mark (conversion_known d known) inner
+-- A qualified expression is of the type already, and so its elements are of their subtype.
+abbrev pub qualified : ℕ → Option ℕ → (Env → Got (Value Scalar)) → (Env → Static) → (Env → Got (List Signals)) → Named
+qualified d mark operand known inner = fresh (λ e. operand e >>= whole_converted (e.denotes d).subtype) mark (conversion_known d known) inner
 
-abbrev pub conversion_of : ℕ → Option ℕ → (Env → Got (Value Scalar)) → (Env → Static) → (Env → Got (List Signals)) → Named → Named
-conversion_of d mark operand known inner p = record (conversion d mark operand known inner) { signals = p.signals; is_whole = p.is_whole }
+-- A conversion of the name of a signal to one of the vector types is still made of its scalar signals, which matters in associations.
+abbrev pub tied_through : Bool → Named → Named → Named
+tied_through true p c = record c { signals = p.signals; is_whole = p.is_whole }
+tied_through false p c = c
+
+-- A conversion between the two vector types changes nothing: they have one index subtype, and elements of one type.
+abbrev pub converting : Bool → ℕ → (Env → Got (Value Scalar)) → Env → Got (Value Scalar)
+converting true d operand e = operand e
+converting false d operand e = operand e >>= converted (e.denotes d).subtype
+
+abbrev pub conversion_of : Bool → ℕ → Option ℕ → (Env → Got (Value Scalar)) → (Env → Static) → (Env → Got (List Signals)) → Named → Named
+conversion_of between d mark operand known inner p =
+    tied_through (is_vector d && is_some p.prefix) p (fresh (converting between d operand) mark (conversion_known d known) inner)

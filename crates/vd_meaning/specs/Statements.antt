@@ -23,7 +23,7 @@ use Rattle.vd_operators.specs.Applied.{applied}
 use Rattle.vd_operators.specs.declared.op.Op.TheVariants.{Binary}
 use Rattle.vd_operators.specs.declared.op.BinaryOp.TheVariants.{Matching}
 use Rattle.vd_environments.specs.Got.{Got, got, stop, senseless}
-use Rattle.vd_environments.specs.Environments.{ScalarSignal, Signals, Env, Place, with_value, unknown}
+use Rattle.vd_environments.specs.Environments.{ScalarSignal, Signals, Env, Place, with_value, or_senseless, unknown}
 use Rattle.vd_environments.specs.Commands.{Effect, Return, Command, Skip, Act, Then, Choose, Wait, Leave, acting}
 use Rattle.vd_environments.specs.Processes.{numbers_of}
 use Rattle.vd_meaning.specs.Tables.{Table, Sort, LogicSort, LogicsSort, sort_of}
@@ -54,11 +54,13 @@ time_in _ = senseless
 abbrev pub due : Env → ℕ → Got ℕ
 due e delay = if nat_lt (e.view.time + delay) (2 ^ 63) then Ok (e.view.time + delay) else stop Overflow
 
--- one assignment for each scalar signal of the target
-abbrev pub assigned_to : (ℕ → ℕ) → Delay → ℕ → List ScalarSignal → List Scalar → List Assignment
+-- one assignment for each scalar signal of the target, which the process drives, of which there are as many as scalars of the value
+abbrev pub assigned_to : (ℕ → Option ℕ) → Delay → ℕ → List ScalarSignal → List Scalar → Got (List Assignment)
 assigned_to drivers mode time (n ∷ ns) (x ∷ xs) =
-    record { driver = drivers n.number; delay = mode; new = record { time = time; value = x } } ∷ assigned_to drivers mode time ns xs
-assigned_to drivers mode time _ _ = []
+    or_senseless (drivers n.number) >>= λ d. assigned_to drivers mode time ns xs >>= λ rest.
+    Ok (record { driver = d; delay = mode; new = record { time = time; value = x } } ∷ rest)
+assigned_to drivers mode time [] [] = Ok []
+assigned_to drivers mode time _ _ = senseless
 
 abbrev pub effect_of : Env → Got (List Assignment) → Effect
 effect_of e (Ok sent) = record { assignments = sent; reports = []; after = Ok e }
@@ -68,7 +70,7 @@ effect_of e (Err s) = record { assignments = []; reports = []; after = Err s }
 abbrev pub sending : Named → Delay → Waveform → Env → Got (List Assignment)
 sending target mode w e =
     w.value (target.subtype e) e >>= λ v. w.delay e >>= λ d. target.signals e >>= λ ns. target.subtype e >>= λ s.
-    got (fit s v) >>= λ x. due e d >>= λ t. Ok (assigned_to e.drivers mode t (leaves ns) (leaves x))
+    got (fit s v) >>= λ x. due e d >>= λ t. assigned_to e.drivers mode t (leaves ns) (leaves x)
 
 abbrev pub driving : Named → Delay → Waveform → Command
 driving target mode w = Act (λ e. effect_of e (sending target mode w e))

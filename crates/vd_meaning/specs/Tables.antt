@@ -1,5 +1,5 @@
 -- The declarations of a design as a table, and what their classes and types are to a meaning.
-use Rattle.std.specs.Prelude.{ℕ, nat_lt, ◌==◌, ◌||◌, Bool, true, false, List, [], map, Option, Some, None, slice_index_or, if◌then◌else◌}
+use Rattle.std.specs.Prelude.{ℕ, nat_lt, ◌==◌, ◌||◌, Bool, true, false, List, [], ◌∷◌, ◌++◌, map, Option, Some, None, slice_index_or, if◌then◌else◌}
 use Rattle.vd_trees.specs.declared.revision.Revision.{Revision}
 use Rattle.vd_trees.specs.declared.revision.Revision.TheVariants.{V2019, V1993}
 use Rattle.vd_declarations.specs.declared.classes.Class.{Class}
@@ -9,7 +9,7 @@ use Rattle.vd_declarations.specs.declared.declarations.Declaration.{Declaration}
 use Rattle.vd_forest.specs.Forest.{no_place}
 use Rattle.vd_vectors.specs.declared.logics.LogicType.{LogicType}
 use Rattle.vd_vectors.specs.declared.logics.LogicType.TheVariants.{TwoValued, NineValued}
-use Rattle.vd_given.specs.declared.numbers.TheConstants.{BOOLEAN, BIT, INTEGER, TIME, STD_ULOGIC}
+use Rattle.vd_given.specs.declared.numbers.TheConstants.{BOOLEAN, BIT, INTEGER, TIME, STD_ULOGIC, STD_ULOGIC_VECTOR, STD_LOGIC_VECTOR}
 
 -- Each declaration of a design by its number; those that no file has come first, and are so many.
 pub record Table : Type 0 where
@@ -18,7 +18,7 @@ pub record Table : Type 0 where
 
 abbrev pub no_declaration : Declaration
 no_declaration =
-    record { class = class.Label; name = []; mark = None; parameters = []; inside = None; place = no_place; made = Written; wanted = [] }
+    record { class = class.Label; name = []; mark = None; parameters = []; generics = []; inside = None; place = no_place; made = Written; wanted = [] }
 
 -- how many declarations are given
 abbrev pub given_count : Revision → ℕ
@@ -84,9 +84,32 @@ abbrev pub is_brought : Class → Bool
 is_brought class.PredefinedOperator = true
 is_brought _ = false
 
+-- a type that is a generic is its actual in an instance
+abbrev pub mark_in : Class → ℕ → ℕ
+mark_in (class.Subtype mark) n = mark
+mark_in _ n = n
+
+abbrev pub actual_mark : Table → ℕ → ℕ
+actual_mark t n = mark_in (t.declared n).class n
+
 -- what has its meaning from the language, and not from a text
 abbrev pub is_predefined : Table → ℕ → Bool
 is_predefined t n = nat_lt n t.given || is_brought (t.declared n).class
+
+-- What a package with generics declares, its generics first, and in the same order what an instance of it declares.
+abbrev pub declared_in : Table → ℕ → List ℕ
+declared_in t n = (t.declared n).generics ++ (t.declared n).parameters
+
+abbrev pub pairs : List ℕ → List ℕ → List (ℕ × ℕ)
+pairs (m ∷ ms) (n ∷ ns) = (m, n) ∷ pairs ms ns
+pairs _ _ = []
+
+abbrev pub copies_in : Table → (generic instance : ℕ) → List (ℕ × ℕ)
+copies_in t generic instance = pairs (declared_in t generic) (declared_in t instance)
+
+-- the vector types of IEEE 1164
+abbrev pub is_vector : ℕ → Bool
+is_vector n = (n == STD_ULOGIC_VECTOR) || (n == STD_LOGIC_VECTOR)
 
 -- the types of its parameters
 abbrev pub operand_types : Table → ℕ → List (Option ℕ)

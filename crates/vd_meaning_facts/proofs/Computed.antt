@@ -4,6 +4,7 @@ use Rattle.std.specs.Fmt.{digits}
 use Rattle.vd_given.specs.Table.{standard_types, standard_operators, logic_types, logic_operators}
 use Rattle.vd_meaning_facts.specs.Expressions.{Expressions}
 use Rattle.vd_meaning_facts.specs.Statements.{Statements}
+use Rattle.vd_meaning_facts.specs.Targets.{Targets}
 
 pub expressions : Expressions
 unfolding standard_types standard_operators logic_types logic_operators digits
@@ -47,3 +48,7 @@ statements =
       no_return = refl;
       short = refl;
     }
+
+pub targets : Targets
+unfolding standard_types standard_operators logic_types logic_operators digits
+targets = record { element = refl; beyond = refl; within = refl; known = refl; unknown = refl }

@@ -1,3 +1,4 @@
 pub mod Trees
 pub mod Expressions
 pub mod Statements
+pub mod Targets

@@ -1,13 +1,12 @@
 -- Aggregates with other numbers.
-use Rattle.std.proofs.Common.{◌≡◌, ℕ, suc, ℤ, Bool, true, false, not, List, [], ◌∷◌, ◌++◌, Option, Some, None, map, filter, refl, ◌∙◌}
+use Rattle.std.proofs.Common.{◌≡◌, ℕ, suc, ℤ, Bool, true, false, not, List, [], ◌∷◌, ◌++◌, Option, Some, None, filter, refl, ◌∙◌}
 use Rattle.std.specs.Prelude.{◌||◌, if◌then◌else◌, pos, Ok}
 use Rattle.std.specs.List.{AllZip, list_any}
 use Rattle.std.specs.Ordering.{int_eq}
-use Rattle.vd_values.specs.declared.scalar.Scalar.{Scalar}
 use Rattle.vd_composites.specs.declared.ranges.Bounds.{Bounds}
 use Rattle.vd_composites.specs.declared.scalars.ScalarSubtype.{ScalarSubtype}
 use Rattle.vd_composites.specs.Stops.{◌>>=◌}
-use Rattle.vd_composites.specs.Composites.{Value, items_of}
+use Rattle.vd_composites.specs.Composites.{items_of}
 use Rattle.vd_composites.specs.Subtypes.{Subtype, Scalars, Arrays, Records, Subtypes, number_of, fit}
 use Rattle.vd_composites.specs.Concatenations.{array_on}
 use Rattle.vd_composites.specs.Aggregates.{named_bounds, bounds_with_others, array_from, record_from, numbers_from, chosen_indexes}
@@ -16,28 +15,28 @@ use Rattle.vd_environments.specs.Environments.{Env, only_global}
 use Rattle.vd_meaning.specs.Names.{bounds_of_subtype}
 use Rattle.vd_meaning.specs.Facets.{Meaning, Association, Positional, ByChoices, ForOthers, Choice}
 use Rattle.vd_meaning.specs.Brackets.{for_each, is_positional, is_for_others, has_choices, positional_count, all_ranges, ranges_of, with_positions, indexes_of, array_pairs, array_of_pairs, array_with_others, array_with_choices, each_element, known_direction, array_aggregate, positions_of, fields_of, named_fields, fields_left, field_at, record_pairs, record_aggregate, aggregate_of, aggregate, bracketed_value, bracketed_known}
-use Rattle.vd_meaning_laws.specs.Agreement.{Link, IsApart, through, number_in}
-use Rattle.vd_meaning_laws.specs.Renumbering.{AlikeMeaning, choice_in}
-use Rattle.vd_meaning_laws.proofs.Parts.{ranges_same, known_same}
+use Rattle.vd_meaning_laws.specs.Agreement.{Link, IsApart, through, Keeps, Alike, number_in}
+use Rattle.vd_meaning_laws.specs.Renumbering.{AlikeChoice, AlikeMeaning}
+use Rattle.vd_meaning_laws.proofs.Parts.{ranges_alike, known_alike}
 
 module _ (l : Link) (numbers : IsApart l) where
-  each_same : (subtype : ℤ → Got Subtype) (m n : Meaning) → AlikeMeaning l m n → (e : Env) (is : List ℤ) → for_each subtype n e is ≡ for_each subtype m (through l e) is
-  each_same subtype m n h e [] = refl
-  each_same subtype m n h e (i ∷ is) =
-      λ k. subtype i >>= λ s. h.value k (Ok s) e >>= λ v. got (fit s v) >>= λ w. each_same subtype m n h e is k >>= λ rest. Ok ((i, w) ∷ rest)
+  each_same : (subtype : ℤ → Got Subtype) (m n : Meaning) → AlikeMeaning l m n → (e : Env) → Keeps l e → (is : List ℤ) → for_each subtype n e is ≡ for_each subtype m (through l e) is
+  each_same subtype m n h e j [] = refl
+  each_same subtype m n h e j (i ∷ is) =
+      λ k. subtype i >>= λ s. h.value (Ok s) e j k >>= λ v. got (fit s v) >>= λ w. each_same subtype m n h e j is k >>= λ rest. Ok ((i, w) ∷ rest)
 
   count_same : (ms ns : List Meaning) → AllZip (AlikeMeaning l) ms ns → positional_count ns ≡ positional_count ms
   count_same [] [] h = refl
   count_same (m ∷ ms) (n ∷ ns) h = λ i. if is_positional (h.0.association i) then suc (count_same ms ns h.1 i) else count_same ms ns h.1 i
   count_same _ _ h = absurd h
 
-  ranges_in : (m n : Meaning) → AlikeMeaning l m n → (e : Env) → ranges_of n.choices e ≡ ranges_of m.choices (through l e)
-  ranges_in m n h e = (λ i. ranges_of (h.choices i) e) ∙ ranges_same l numbers m.choices e
+  ranges_in : (m n : Meaning) → AlikeMeaning l m n → Alike l (ranges_of m.choices) (ranges_of n.choices)
+  ranges_in m n h = ranges_alike l numbers m.choices n.choices h.choices
 
-  all_ranges_same : (ms ns : List Meaning) → AllZip (AlikeMeaning l) ms ns → (e : Env) → all_ranges ns e ≡ all_ranges ms (through l e)
-  all_ranges_same [] [] h e = refl
-  all_ranges_same (m ∷ ms) (n ∷ ns) h e = λ i. ranges_in m n h.0 e i >>= λ cs. all_ranges_same ms ns h.1 e i >>= λ rest. Ok (cs ++ rest)
-  all_ranges_same _ _ h e = absurd h
+  all_ranges_same : (ms ns : List Meaning) → AllZip (AlikeMeaning l) ms ns → Alike l (all_ranges ms) (all_ranges ns)
+  all_ranges_same [] [] h e j = refl
+  all_ranges_same (m ∷ ms) (n ∷ ns) h e j = λ i. ranges_in m n h.0 e j i >>= λ cs. all_ranges_same ms ns h.1 e j i >>= λ rest. Ok (cs ++ rest)
+  all_ranges_same _ _ h e j = absurd h
 
   indexes_at : (a : Association) (b : Bounds) (k : ℕ) (all : List Bounds) (cs ds : List Choice) (e e' : Env) → ranges_of ds e' ≡ ranges_of cs e
       → indexes_of a b k all ds e' ≡ indexes_of a b k all cs e
@@ -45,58 +44,59 @@ module _ (l : Link) (numbers : IsApart l) where
   indexes_at ByChoices b k all cs ds e e' h = λ i. h i >>= λ rs. Ok (chosen_indexes rs)
   indexes_at ForOthers b k all cs ds e e' h = refl
 
-  indexes_same : (m n : Meaning) → AlikeMeaning l m n → (b : Bounds) (k : ℕ) (all : List Bounds) (e : Env)
+  indexes_same : (m n : Meaning) → AlikeMeaning l m n → (b : Bounds) (k : ℕ) (all : List Bounds) (e : Env) → Keeps l e
       → indexes_of n.association b k all n.choices e ≡ indexes_of m.association b k all m.choices (through l e)
-  indexes_same m n h b k all e =
-      (λ i. indexes_of (h.association i) b k all n.choices e) ∙ indexes_at m.association b k all m.choices n.choices (through l e) e (ranges_in m n h e)
+  indexes_same m n h b k all e j =
+      (λ i. indexes_of (h.association i) b k all n.choices e) ∙ indexes_at m.association b k all m.choices n.choices (through l e) e (ranges_in m n h e j)
 
-  pairs_same : (element : Subtype) (b : Bounds) (k : ℕ) (all : List Bounds) (ms ns : List Meaning) → AllZip (AlikeMeaning l) ms ns → (e : Env)
+  pairs_same : (element : Subtype) (b : Bounds) (k : ℕ) (all : List Bounds) (ms ns : List Meaning) → AllZip (AlikeMeaning l) ms ns → (e : Env) → Keeps l e
       → array_pairs element b k all ns e ≡ array_pairs element b k all ms (through l e)
-  pairs_same element b k all [] [] h e = refl
-  pairs_same element b k all (m ∷ ms) (n ∷ ns) h e =
-      (λ i. indexes_same m n h.0 b k all e i >>= (λ is. each_same (λ _. Ok element) m n h.0 e is i) >>= λ ps.
+  pairs_same element b k all [] [] h e j = refl
+  pairs_same element b k all (m ∷ ms) (n ∷ ns) h e j =
+      (λ i. indexes_same m n h.0 b k all e j i >>= (λ is. each_same (λ _. Ok element) m n h.0 e j is i) >>= λ ps.
       array_pairs element b (if is_positional (h.0.association i) then suc k else k) all ns e >>= λ rest. Ok (ps ++ rest))
       ∙ (λ i. indexes_of m.association b k all m.choices (through l e) >>= for_each (λ _. Ok element) m (through l e) >>= λ ps.
-      pairs_same element b (if is_positional m.association then suc k else k) all ms ns h.1 e i >>= λ rest. Ok (ps ++ rest))
-  pairs_same element b k all _ _ h e = absurd h
+      pairs_same element b (if is_positional m.association then suc k else k) all ms ns h.1 e j i >>= λ rest. Ok (ps ++ rest))
+  pairs_same element b k all _ _ h e j = absurd h
 
-  elements_same : (element : Subtype) (ms ns : List Meaning) → AllZip (AlikeMeaning l) ms ns → (e : Env) → each_element element ns e ≡ each_element element ms (through l e)
-  elements_same element [] [] h e = refl
-  elements_same element (m ∷ ms) (n ∷ ns) h e =
-      λ i. h.0.value i (Ok element) e >>= λ v. got (fit element v) >>= λ w. elements_same element ms ns h.1 e i >>= λ ws. Ok (w ∷ ws)
-  elements_same element _ _ h e = absurd h
+  elements_same : (element : Subtype) (ms ns : List Meaning) → AllZip (AlikeMeaning l) ms ns → (e : Env) → Keeps l e → each_element element ns e ≡ each_element element ms (through l e)
+  elements_same element [] [] h e j = refl
+  elements_same element (m ∷ ms) (n ∷ ns) h e j =
+      λ i. h.0.value (Ok element) e j i >>= λ v. got (fit element v) >>= λ w. elements_same element ms ns h.1 e j i >>= λ ws. Ok (w ∷ ws)
+  elements_same element _ _ h e j = absurd h
 
   any_same : (f : Association → Bool) (ms ns : List Meaning) → AllZip (AlikeMeaning l) ms ns → list_any (λ m. f m.association) ns ≡ list_any (λ m. f m.association) ms
   any_same f [] [] h = refl
   any_same f (m ∷ ms) (n ∷ ns) h = λ i. f (h.0.association i) || any_same f ms ns h.1 i
   any_same f _ _ h = absurd h
 
-  others_same : (element : Subtype) (known : Got Bounds) (ms ns : List Meaning) → AllZip (AlikeMeaning l) ms ns → (e : Env)
+  others_same : (element : Subtype) (known : Got Bounds) (ms ns : List Meaning) → AllZip (AlikeMeaning l) ms ns → (e : Env) → Keeps l e
       → array_with_others element known ns e ≡ array_with_others element known ms (through l e)
-  others_same element known ms ns h e =
-      (λ i. known >>= λ b. all_ranges_same ms ns h e i >>= λ cs. got (bounds_with_others b (with_positions b (count_same ms ns h i) cs)) >>= λ c.
+  others_same element known ms ns h e j =
+      (λ i. known >>= λ b. all_ranges_same ms ns h e j i >>= λ cs. got (bounds_with_others b (with_positions b (count_same ms ns h i) cs)) >>= λ c.
       array_of_pairs element c (with_positions b (count_same ms ns h i) cs) ns e)
       ∙ (λ i. known >>= λ b. all_ranges ms (through l e) >>= λ cs. got (bounds_with_others b (with_positions b (positional_count ms) cs)) >>= λ c.
-      pairs_same element c 0 (with_positions b (positional_count ms) cs) ms ns h e i >>= λ ps. got (array_from c ps))
+      pairs_same element c 0 (with_positions b (positional_count ms) cs) ms ns h e j i >>= λ ps. got (array_from c ps))
 
-  choices_same : (index : ScalarSubtype) (element : Subtype) (down : Bool) (ms ns : List Meaning) → AllZip (AlikeMeaning l) ms ns → (e : Env)
+  choices_same : (index : ScalarSubtype) (element : Subtype) (down : Bool) (ms ns : List Meaning) → AllZip (AlikeMeaning l) ms ns → (e : Env) → Keeps l e
       → array_with_choices index element down ns e ≡ array_with_choices index element down ms (through l e)
-  choices_same index element down ms ns h e =
-      λ i. all_ranges_same ms ns h e i >>= λ cs. got (named_bounds index down cs) >>= λ b.
-      pairs_same element b 0 cs ms ns h e i >>= λ ps. got (array_from b ps)
+  choices_same index element down ms ns h e j =
+      λ i. all_ranges_same ms ns h e j i >>= λ cs. got (named_bounds index down cs) >>= λ b.
+      pairs_same element b 0 cs ms ns h e j i >>= λ ps. got (array_from b ps)
 
-  array_same : (index : ScalarSubtype) (own : Option Bounds) (element : Subtype) (known : Got Subtype) (ms ns : List Meaning) → AllZip (AlikeMeaning l) ms ns → (e : Env)
+  array_same : (index : ScalarSubtype) (own : Option Bounds) (element : Subtype) (known : Got Subtype) (ms ns : List Meaning) → AllZip (AlikeMeaning l) ms ns → (e : Env) → Keeps l e
       → array_aggregate index own element known ns e ≡ array_aggregate index own element known ms (through l e)
-  array_same index own element known ms ns h e =
-      λ i. if any_same is_for_others ms ns h i then others_same element (known >>= bounds_of_subtype) ms ns h e i
-      else (if any_same has_choices ms ns h i then choices_same index element (known_direction known own) ms ns h e i
-      else (elements_same element ms ns h e i >>= λ vs. got (array_on index (items_of vs))))
+  array_same index own element known ms ns h e j =
+      λ i. if any_same is_for_others ms ns h i then others_same element (known >>= bounds_of_subtype) ms ns h e j i
+      else (if any_same has_choices ms ns h i then choices_same index element (known_direction known own) ms ns h e j i
+      else (elements_same element ms ns h e j i >>= λ vs. got (array_on index (items_of vs))))
 
   -- ---- records
 
-  positions_same : (cs : List Choice) → positions_of (map (choice_in l) cs) ≡ positions_of cs
-  positions_same [] = refl
-  positions_same (c ∷ cs) = λ i. pos c.position ∷ positions_same cs i
+  positions_same : (cs ds : List Choice) → AllZip (AlikeChoice l) cs ds → positions_of ds ≡ positions_of cs
+  positions_same [] [] h = refl
+  positions_same (c ∷ cs) (d ∷ ds) h = λ i. pos (h.0.position i) ∷ positions_same cs ds h.1 i
+  positions_same _ _ h = absurd h
 
   fields_at : (a : Association) (k : ℕ) (left : List ℤ) (cs ds : List Choice) → positions_of ds ≡ positions_of cs → fields_of a k left ds ≡ fields_of a k left cs
   fields_at Positional k left cs ds h = refl
@@ -105,7 +105,7 @@ module _ (l : Link) (numbers : IsApart l) where
 
   fields_same : (m n : Meaning) → AlikeMeaning l m n → (k : ℕ) (left : List ℤ) → fields_of n.association k left n.choices ≡ fields_of m.association k left m.choices
   fields_same m n h k left =
-      (λ i. fields_of (h.association i) k left n.choices) ∙ fields_at m.association k left m.choices n.choices ((λ i. positions_of (h.choices i)) ∙ positions_same m.choices)
+      (λ i. fields_of (h.association i) k left n.choices) ∙ fields_at m.association k left m.choices n.choices (positions_same m.choices n.choices h.choices)
 
   named_same : (k : ℕ) (ms ns : List Meaning) → AllZip (AlikeMeaning l) ms ns → named_fields k ns ≡ named_fields k ms
   named_same k [] [] h = refl
@@ -117,56 +117,51 @@ module _ (l : Link) (numbers : IsApart l) where
   left_same : (count : ℕ) (ms ns : List Meaning) → AllZip (AlikeMeaning l) ms ns → fields_left count ns ≡ fields_left count ms
   left_same count ms ns h = λ i. filter (λ x. not (list_any (λ j. int_eq x j) (named_same 0 ms ns h i))) (numbers_from 0 count)
 
-  record_pairs_same : (fields : Subtypes) (k : ℕ) (left : List ℤ) (ms ns : List Meaning) → AllZip (AlikeMeaning l) ms ns → (e : Env)
+  record_pairs_same : (fields : Subtypes) (k : ℕ) (left : List ℤ) (ms ns : List Meaning) → AllZip (AlikeMeaning l) ms ns → (e : Env) → Keeps l e
       → record_pairs fields k left ns e ≡ record_pairs fields k left ms (through l e)
-  record_pairs_same fields k left [] [] h e = refl
-  record_pairs_same fields k left (m ∷ ms) (n ∷ ns) h e =
-      (λ i. each_same (field_at fields) m n h.0 e (fields_same m n h.0 k left i) i >>= λ ps.
+  record_pairs_same fields k left [] [] h e j = refl
+  record_pairs_same fields k left (m ∷ ms) (n ∷ ns) h e j =
+      (λ i. each_same (field_at fields) m n h.0 e j (fields_same m n h.0 k left i) i >>= λ ps.
       record_pairs fields (if is_positional (h.0.association i) then suc k else k) left ns e >>= λ rest. Ok (ps ++ rest))
       ∙ (λ i. for_each (field_at fields) m (through l e) (fields_of m.association k left m.choices) >>= λ ps.
-      record_pairs_same fields (if is_positional m.association then suc k else k) left ms ns h.1 e i >>= λ rest. Ok (ps ++ rest))
-  record_pairs_same fields k left _ _ h e = absurd h
+      record_pairs_same fields (if is_positional m.association then suc k else k) left ms ns h.1 e j i >>= λ rest. Ok (ps ++ rest))
+  record_pairs_same fields k left _ _ h e j = absurd h
 
-  record_same : (fields : Subtypes) (ms ns : List Meaning) → AllZip (AlikeMeaning l) ms ns → (e : Env) → record_aggregate fields ns e ≡ record_aggregate fields ms (through l e)
-  record_same fields ms ns h e =
+  record_same : (fields : Subtypes) (ms ns : List Meaning) → AllZip (AlikeMeaning l) ms ns → (e : Env) → Keeps l e → record_aggregate fields ns e ≡ record_aggregate fields ms (through l e)
+  record_same fields ms ns h e j =
       (λ i. record_pairs fields 0 (left_same (number_of fields) ms ns h i) ns e >>= λ ps. got (record_from (number_of fields) ps))
-      ∙ (λ i. record_pairs_same fields 0 (fields_left (number_of fields) ms) ms ns h e i >>= λ ps. got (record_from (number_of fields) ps))
+      ∙ (λ i. record_pairs_same fields 0 (fields_left (number_of fields) ms) ms ns h e j i >>= λ ps. got (record_from (number_of fields) ps))
 
   -- ---- all of them
 
-  by_subtype : (s : Subtype) (known : Got Subtype) (ms ns : List Meaning) → AllZip (AlikeMeaning l) ms ns → (e : Env) → aggregate_of s known ns e ≡ aggregate_of s known ms (through l e)
-  by_subtype (Arrays index own element) known ms ns h e = array_same index own element known ms ns h e
-  by_subtype (Records fields) known ms ns h e = record_same fields ms ns h e
-  by_subtype (Scalars s) known ms ns h e = refl
+  by_subtype : (s : Subtype) (known : Got Subtype) (ms ns : List Meaning) → AllZip (AlikeMeaning l) ms ns → (e : Env) → Keeps l e → aggregate_of s known ns e ≡ aggregate_of s known ms (through l e)
+  by_subtype (Arrays index own element) known ms ns h e j = array_same index own element known ms ns h e j
+  by_subtype (Records fields) known ms ns h e j = record_same fields ms ns h e j
+  by_subtype (Scalars s) known ms ns h e j = refl
 
-  aggregate_same : (mark : Option ℕ) (ms ns : List Meaning) → AllZip (AlikeMeaning l) ms ns → (known : Got Subtype) (e : Env)
+  aggregate_same : (mark : Option ℕ) (ms ns : List Meaning) → AllZip (AlikeMeaning l) ms ns → (known : Got Subtype) (e : Env) → Keeps l e
       → aggregate (number_in l mark) ns known e ≡ aggregate mark ms known (through l e)
-  aggregate_same None ms ns h known e = refl
-  aggregate_same (Some d) ms ns h known e = by_subtype (e.denotes (l.number d)).subtype known ms ns h e
+  aggregate_same None ms ns h known e j = refl
+  aggregate_same (Some d) ms ns h known e j = by_subtype (e.denotes (l.number d)).subtype known ms ns h e j
 
-  abbrev pick : Bool → (Got Subtype → Env → Got (Value Scalar)) → (Got Subtype → Env → Got (Value Scalar)) → Got Subtype → Env → Got (Value Scalar)
-  pick b f g = if b then f else g
-
-  chosen : (b : Bool) (f g : Got Subtype → Env → Got (Value Scalar)) (known : Got Subtype) (e : Env)
-      → pick b (λ known e. f known (through l e)) (λ known e. g known (through l e)) known e ≡ pick b f g known (through l e)
-  chosen true f g known e = refl
-  chosen false f g known e = refl
-
-  pub bracketed_same : (mark : Option ℕ) (ms ns : List Meaning) → AllZip (AlikeMeaning l) ms ns → (known : Got Subtype) (e : Env)
+  pub bracketed_same : (mark : Option ℕ) (ms ns : List Meaning) → AllZip (AlikeMeaning l) ms ns → (known : Got Subtype) (e : Env) → Keeps l e
       → bracketed_value (number_in l mark) ns known e ≡ bracketed_value mark ms known (through l e)
-  bracketed_same mark [] [] h known e = aggregate_same mark [] [] h known e
-  bracketed_same mark (m ∷ []) (n ∷ []) h known e =
-      (λ i. pick (is_positional (h.0.association i)) (h.0.value i) (λ known e. aggregate_same mark (m ∷ []) (n ∷ []) h known e i) known e)
-      ∙ chosen (is_positional m.association) m.value (aggregate mark (m ∷ [])) known e
-  bracketed_same mark (m ∷ m' ∷ ms) (n ∷ n' ∷ ns) h known e = aggregate_same mark (m ∷ m' ∷ ms) (n ∷ n' ∷ ns) h known e
-  bracketed_same mark (m ∷ []) (n ∷ n' ∷ ns) h known e = absurd h.1
-  bracketed_same mark (m ∷ m' ∷ ms) (n ∷ []) h known e = absurd h.1
-  bracketed_same mark _ _ h known e = absurd h
+  bracketed_same mark [] [] h known e j = aggregate_same mark [] [] h known e j
+  bracketed_same mark (m ∷ []) (n ∷ []) h known e j =
+      (λ i. (if is_positional (h.0.association i) then n.value else aggregate (number_in l mark) (n ∷ [])) known e) ∙ one_same (is_positional m.association)
+    where
+      one_same : (b : Bool) → (if b then n.value else aggregate (number_in l mark) (n ∷ [])) known e ≡ (if b then m.value else aggregate mark (m ∷ [])) known (through l e)
+      one_same true = h.0.value known e j
+      one_same false = aggregate_same mark (m ∷ []) (n ∷ []) h known e j
+  bracketed_same mark (m ∷ m' ∷ ms) (n ∷ n' ∷ ns) h known e j = aggregate_same mark (m ∷ m' ∷ ms) (n ∷ n' ∷ ns) h known e j
+  bracketed_same mark (m ∷ []) (n ∷ n' ∷ ns) h known e j = absurd h.1
+  bracketed_same mark (m ∷ m' ∷ ms) (n ∷ []) h known e j = absurd h.1
+  bracketed_same mark _ _ h known e j = absurd h
 
-  pub bracketed_known_same : (ms ns : List Meaning) → AllZip (AlikeMeaning l) ms ns → (e : Env) → bracketed_known ns e ≡ bracketed_known ms (through l e)
-  bracketed_known_same [] [] h e = refl
-  bracketed_known_same (m ∷ []) (n ∷ []) h e = λ i. if is_positional (h.0.association i) then h.0.known i e else only_global (h.0.known i e)
-  bracketed_known_same (m ∷ m' ∷ ms) (n ∷ n' ∷ ns) h e = λ i. only_global (known_same l numbers (m ∷ m' ∷ ms) (n ∷ n' ∷ ns) h e i)
-  bracketed_known_same (m ∷ []) (n ∷ n' ∷ ns) h e = absurd h.1
-  bracketed_known_same (m ∷ m' ∷ ms) (n ∷ []) h e = absurd h.1
-  bracketed_known_same _ _ h e = absurd h
+  pub bracketed_known_alike : (ms ns : List Meaning) → AllZip (AlikeMeaning l) ms ns → Alike l (bracketed_known ms) (bracketed_known ns)
+  bracketed_known_alike [] [] h e j = refl
+  bracketed_known_alike (m ∷ []) (n ∷ []) h e j = λ i. if is_positional (h.0.association i) then h.0.known e j i else only_global (h.0.known e j i)
+  bracketed_known_alike (m ∷ m' ∷ ms) (n ∷ n' ∷ ns) h e j = λ i. only_global (known_alike l numbers (m ∷ m' ∷ ms) (n ∷ n' ∷ ns) h e j i)
+  bracketed_known_alike (m ∷ []) (n ∷ n' ∷ ns) h e j = absurd h.1
+  bracketed_known_alike (m ∷ m' ∷ ms) (n ∷ []) h e j = absurd h.1
+  bracketed_known_alike _ _ h e j = absurd h

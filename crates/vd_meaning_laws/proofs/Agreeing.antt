@@ -22,7 +22,7 @@ then_same (Err s) h f f' e same = ap (λ g. g >>= f') e
 module _ (l : Link) (numbers : IsApart l) where
   -- what is alike comes to the same where environments agree
   pub at : {A : Type 0} (f g : Env → A) → Alike l f g → (e e' : Env) → Agree l e e' → g e' ≡ f e
-  at f g h e e' a = h e' ∙ ap f a.same
+  at f g h e e' a = h e' a.keeps ∙ ap f a.same
 
   -- ---- environments
 

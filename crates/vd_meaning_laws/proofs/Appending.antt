@@ -7,11 +7,11 @@ use Rattle.vd_declarations.specs.declared.classes.Class.{Class}
 use Rattle.vd_declarations.specs.declared.classes.Class.TheVariants as class
 use Rattle.vd_declarations.specs.declared.declarations.Declaration.{Declaration}
 use Rattle.vd_declarations.specs.Classes.{named_by}
-use Rattle.vd_given.specs.declared.numbers.TheConstants.{BOOLEAN, BIT, INTEGER, TIME, STD_ULOGIC}
+use Rattle.vd_given.specs.declared.numbers.TheConstants.{BOOLEAN, BIT, INTEGER, TIME, STD_ULOGIC, STD_ULOGIC_VECTOR, STD_LOGIC_VECTOR}
 use Rattle.vd_forest.specs.Forest.{nothing, more}
 use Rattle.vd_resolved.specs.Validity.{IsOwn, IsType, OnSome, IsAmong}
 use Rattle.vd_environments.specs.Environments.{Denotation}
-use Rattle.vd_meaning.specs.Tables.{Table, table, no_declaration, given_count, role, role_of, IntegerSort, TimeSort, sort_of_composite, actual_of, is_brought, operand_types, logic_type, sort_of, sort_of_scalar}
+use Rattle.vd_meaning.specs.Tables.{Table, table, no_declaration, given_count, role, role_of, IntegerSort, TimeSort, sort_of_composite, actual_of, mark_in, is_brought, operand_types, logic_type, sort_of, sort_of_scalar}
 use Rattle.vd_vectors.specs.declared.logics.LogicType.{LogicType}
 use Rattle.vd_vectors.specs.declared.logics.LogicType.TheVariants.{TwoValued, NineValued}
 use Rattle.vd_meaning.specs.Operators.{Symbol, symbol, of_operands, of_one, of_pair, operand_kind, is_local_of, is_local_of_one}
@@ -123,7 +123,7 @@ module _ (r : Revision) (ds new : List Declaration) (kept : ℕ → Bool) (base 
   own_declared k h = front ds new k no_declaration h
 
   among_at : (k : ℕ) → IsAmong ds (before.declared k)
-  among_at k = all_at (IsAmong ds) ds k no_declaration among (record { mark = tt; parameters = λ k d h. absurd (omega (arith, h)); named = λ k d h. absurd (omega (arith, h)); types = λ k d h. absurd (omega (arith, h)) }) (side k (length ds) _ refl)
+  among_at k = all_at (IsAmong ds) ds k no_declaration among (record { mark = tt; parameters = λ k d h. absurd (omega (arith, h)); generics = λ k d h. absurd (omega (arith, h)); named = λ k d h. absurd (omega (arith, h)); types = λ k d h. absurd (omega (arith, h)) }) (side k (length ds) _ refl)
 
   own_stay : (ks : List ℕ) → All (IsOwn ds) ks → map l.number ks ≡ ks
   own_stay [] h = refl
@@ -168,6 +168,42 @@ module _ (r : Revision) (ds new : List Declaration) (kept : ℕ → Bool) (base 
   actual_in class.InstanceFunction d h = refl
   actual_in class.PredefinedOperator d h = refl
   actual_in class.Label d h = refl
+
+  marked_in : (c : Class) (d : ℕ) → All (IsOwn ds) (named_by c) → mark_in c (l.number d) ≡ l.number (mark_in c d)
+  marked_in (class.ActualFunction actual) d h = refl
+  marked_in (class.LibraryName library) d h = refl
+  marked_in (class.ArrayType index element element_mark) d h = refl
+  marked_in (class.Subtype mark) d h = sym (stays (length ds) (length new) mark (head_of (IsOwn ds) mark [] h))
+  marked_in class.Library d h = refl
+  marked_in class.Entity d h = refl
+  marked_in class.Architecture d h = refl
+  marked_in class.Package d h = refl
+  marked_in class.UninstantiatedPackage d h = refl
+  marked_in class.PackageInstance d h = refl
+  marked_in class.Context d h = refl
+  marked_in class.Constant d h = refl
+  marked_in class.Signal d h = refl
+  marked_in class.Variable d h = refl
+  marked_in class.Port d h = refl
+  marked_in class.GenericConstant d h = refl
+  marked_in class.Parameter d h = refl
+  marked_in class.LoopParameter d h = refl
+  marked_in class.GenerateParameter d h = refl
+  marked_in class.EnumerationType d h = refl
+  marked_in class.IntegerType d h = refl
+  marked_in class.PhysicalType d h = refl
+  marked_in class.RecordType d h = refl
+  marked_in class.GenericType d h = refl
+  marked_in class.EnumerationLiteral d h = refl
+  marked_in class.RecordElement d h = refl
+  marked_in class.PhysicalUnit d h = refl
+  marked_in class.View d h = refl
+  marked_in class.Function d h = refl
+  marked_in class.UninstantiatedFunction d h = refl
+  marked_in class.GenericFunction d h = refl
+  marked_in class.InstanceFunction d h = refl
+  marked_in class.PredefinedOperator d h = refl
+  marked_in class.Label d h = refl
 
   pub small : (r : Revision) (n : ℕ) → given_count r ≤ n → (b : ℕ) → nat_lt b 387 ≡ true → b < n
   small V2019 n h b e = omega (arith, h, ltb-true b 387 e)
@@ -241,6 +277,9 @@ module _ (r : Revision) (ds new : List Declaration) (kept : ℕ → Bool) (base 
             ∙ ap (λ b. is_brought (before.declared d).class && b) (locals_same (symbol (before.declared d).name) (operand_types before d) (sorts_at (before.declared d).parameters));
         result = λ d. ap (λ x. x.mark) (same_declared d) ∙ sym (type_stays (before.declared d).mark (among_at d).mark);
         parameters = λ d. ap (λ x. x.parameters) (same_declared d) ∙ sym (own_stay (before.declared d).parameters (among_at d).parameters);
+        generics = λ d. ap (λ x. x.generics) (same_declared d) ∙ sym (own_stay (before.declared d).generics (among_at d).generics);
+        actual_mark = λ d. (λ i. mark_in (same_declared d i).class (l.number d)) ∙ marked_in (before.declared d).class d (among_at d).named;
+        vector = λ d i. is_given STD_ULOGIC_VECTOR refl d i || is_given STD_LOGIC_VECTOR refl d i;
         sort = sort_same;
       }
 

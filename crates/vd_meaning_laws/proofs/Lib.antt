@@ -7,6 +7,7 @@ pub mod Aggregating
 pub mod Bracketing
 pub mod Doing
 pub mod Declaring
+pub mod Instancing
 pub mod Facing
 pub mod Nodes
 pub mod Cases

@@ -40,9 +40,10 @@ jump_in l (Exit loop) = Exit (number_in l loop)
 jump_in l (Next loop) = Next (number_in l loop)
 jump_in l (Return v) = Return v
 
--- an evaluation that comes to the same under other numbers
+-- An evaluation that comes to the same under other numbers, in each environment in which the kept numbers stand for what they stood for. So the other one may
+-- name what is kept, as a function that a pass adds.
 abbrev pub Alike : {A : Type 0} → Link → (Env → A) → (Env → A) → Type 0
-Alike l f g = (e : Env) → g e ≡ f (through l e)
+Alike l f g = (e : Env) → Keeps l e → g e ≡ f (through l e)
 
 -- ---- commands
 

@@ -1,6 +1,7 @@
 -- When two trees mean the same, where the declarations of the one have other numbers in the other.
-use Rattle.std.specs.Prelude.{◌≡◌, ℕ, List, map, Option, Some, None, Ok}
+use Rattle.std.specs.Prelude.{◌≡◌, ℕ, List, map, Option, Ok}
 use Rattle.std.specs.List.{AllZip}
+use Rattle.vd_kernel.specs.Correspondence.{BothOrNone}
 use Rattle.vd_values.specs.declared.scalar.Scalar.{Scalar}
 use Rattle.vd_composites.specs.Composites.{Value}
 use Rattle.vd_composites.specs.Subtypes.{Subtype}
@@ -13,12 +14,12 @@ use Rattle.vd_environments.specs.Environments.{Signals, Env, Place}
 use Rattle.vd_environments.specs.Commands.{Command}
 use Rattle.vd_environments.specs.Functions.{Parameter}
 use Rattle.vd_environments.specs.Processes.{Process}
-use Rattle.vd_meaning.specs.Tables.{Table, role_of, followed, is_predefined, sort_of}
+use Rattle.vd_meaning.specs.Tables.{Table, role_of, followed, actual_mark, is_predefined, is_vector, sort_of}
 use Rattle.vd_meaning.specs.Operators.{operation, is_local_operator}
 use Rattle.vd_meaning.specs.Names.{Named, Stepping}
-use Rattle.vd_meaning.specs.Facets.{Meaning, Waveform, Choice, Comparison, Objects, Body}
+use Rattle.vd_meaning.specs.Facets.{Meaning, Waveform, Choice, Comparison, Objects, Formal, FormalConstants, FormalType, FormalFunction, MapElement, Body}
 use Rattle.vd_meaning.specs.Meanings.{meanings}
-use Rattle.vd_meaning_laws.specs.Agreement.{Link, IsApart, through, number_in, AlikeCommands}
+use Rattle.vd_meaning_laws.specs.Agreement.{Link, IsApart, Agree, Alike, number_in, AlikeCommands}
 
 -- ---- nodes and tables with other numbers
 
@@ -34,76 +35,103 @@ pub record SameTable (l : Link) (t t' : Table) : Type 0 where
   pub is_local : (d : ℕ) → is_local_operator t' (l.number d) ≡ is_local_operator t d
   pub result : (d : ℕ) → (t'.declared (l.number d)).mark ≡ number_in l (t.declared d).mark
   pub parameters : (d : ℕ) → (t'.declared (l.number d)).parameters ≡ map l.number (t.declared d).parameters
+  pub generics : (d : ℕ) → (t'.declared (l.number d)).generics ≡ map l.number (t.declared d).generics
+  pub actual_mark : (d : ℕ) → actual_mark t' (l.number d) ≡ l.number (actual_mark t d)
+  pub vector : (d : ℕ) → is_vector (l.number d) ≡ is_vector d
   pub sort : (m : Option ℕ) → sort_of t' (number_in l m) ≡ sort_of t m
 
 -- ---- what is evaluated under the new numbers comes to what it came to under the old ones
 
-abbrev pub optional : {A : Type 0} → Link → Option (Env → A) → Option (Env → A)
-optional l None = None
-optional l (Some f) = Some (λ e. f (through l e))
+abbrev pub AlikeOption : {A : Type 0} → Link → Option (Env → A) → Option (Env → A) → Type 0
+AlikeOption l x y = BothOrNone (Alike l) x y
+
+-- where the place of an expression gives a subtype
+abbrev pub AlikeValues : Link → (Got Subtype → Env → Got (Value Scalar)) → (Got Subtype → Env → Got (Value Scalar)) → Type 0
+AlikeValues l f g = (known : Got Subtype) → Alike l (f known) (g known)
 
 abbrev pub place_in : Link → Place → Place
 place_in l p = record { object = l.number p.object; steps = p.steps }
 
-abbrev pub name_in : Link → Named → Named
-name_in l p =
-    record {
-      value = λ e. p.value (through l e);
-      place = λ e. p.place (through l e) >>= λ x. Ok (place_in l x);
-      signals = λ e. p.signals (through l e);
-      range = optional l p.range;
-      shape = λ e. p.shape (through l e);
-      subtype = λ e. p.subtype (through l e);
-      make = λ e. p.make (through l e);
-      is_mark = p.is_mark;
-      mark = number_in l p.mark;
-      callee = p.callee;
-      known = λ e. p.known (through l e);
-      prefix = optional l p.prefix;
-      is_whole = λ e. p.is_whole (through l e);
-      inner = λ e. p.inner (through l e);
-    }
+abbrev pub AlikePlaces : Link → (Env → Got Place) → (Env → Got Place) → Type 0
+AlikePlaces l f g = Alike l (λ e. f e >>= λ x. Ok (place_in l x)) g
 
-abbrev pub stepping_in : Link → Stepping → Stepping
-stepping_in l s =
-    record {
-      to = λ e. s.to (through l e);
-      known = λ e. s.known (through l e);
-      inner = λ e. s.inner (through l e);
-      subtype = λ e. s.subtype (through l e);
-      make = λ e. s.make (through l e);
-    }
+pub record AlikeName (l : Link) (p q : Named) : Type 0 where
+  pub value : Alike l p.value q.value
+  pub place : AlikePlaces l p.place q.place
+  pub signals : Alike l p.signals q.signals
+  pub range : AlikeOption l p.range q.range
+  pub shape : Alike l p.shape q.shape
+  pub subtype : Alike l p.subtype q.subtype
+  pub make : Alike l p.make q.make
+  pub is_mark : q.is_mark ≡ p.is_mark
+  pub mark : q.mark ≡ number_in l p.mark
+  pub callee : q.callee ≡ p.callee
+  pub known : Alike l p.known q.known
+  pub prefix : AlikeOption l p.prefix q.prefix
+  pub is_whole : Alike l p.is_whole q.is_whole
+  pub inner : Alike l p.inner q.inner
 
-abbrev pub waveform_in : Link → Waveform → Waveform
-waveform_in l w = record { value = λ known e. w.value known (through l e); delay = λ e. w.delay (through l e) }
+pub record AlikeStepping (l : Link) (s t : Stepping) : Type 0 where
+  pub to : Alike l s.to t.to
+  pub known : Alike l s.known t.known
+  pub inner : Alike l s.inner t.inner
+  pub subtype : Alike l s.subtype t.subtype
+  pub make : Alike l s.make t.make
+  pub shape : Alike l s.shape t.shape
 
-abbrev pub choice_in : Link → Choice → Choice
-choice_in l c = record { named = number_in l c.named; position = c.position; bounds = λ e. c.bounds (through l e) }
+pub record AlikeWaveform (l : Link) (w x : Waveform) : Type 0 where
+  pub value : AlikeValues l w.value x.value
+  pub delay : Alike l w.delay x.delay
 
-abbrev pub parameter_in : Link → Parameter → Parameter
-parameter_in l p = record { object = l.number p.object; indicated = λ e. p.indicated (through l e) }
+pub record AlikeChoice (l : Link) (c d : Choice) : Type 0 where
+  pub named : d.named ≡ number_in l c.named
+  pub position : d.position ≡ c.position
+  pub bounds : Alike l c.bounds d.bounds
 
-abbrev pub default_in : Link → Option (Got Subtype → Env → Got (Value Scalar)) → Option (Got Subtype → Env → Got (Value Scalar))
-default_in l None = None
-default_in l (Some f) = Some (λ known e. f known (through l e))
+pub record AlikeParameter (l : Link) (p q : Parameter) : Type 0 where
+  pub object : q.object ≡ l.number p.object
+  pub indicated : Alike l p.indicated q.indicated
 
-abbrev pub objects_in : Link → Objects → Objects
-objects_in l o = record { numbers = map l.number o.numbers; indicated = λ e. o.indicated (through l e); default = default_in l o.default }
+pub record AlikeObjects (l : Link) (o p : Objects) : Type 0 where
+  pub numbers : p.numbers ≡ map l.number o.numbers
+  pub indicated : Alike l o.indicated p.indicated
+  pub default : BothOrNone (AlikeValues l) o.default p.default
+  pub known : Alike l o.known p.known
+
+abbrev pub AlikeFormal : Link → Formal → Formal → Type 0
+AlikeFormal l (FormalConstants o) (FormalConstants p) = AlikeObjects l o p
+AlikeFormal l (FormalType d) (FormalType c) = c ≡ l.number d
+AlikeFormal l (FormalFunction d) (FormalFunction c) = c ≡ l.number d
+AlikeFormal l _ _ = ⊥
+
+pub record AlikeMapElement (l : Link) (x y : MapElement) : Type 0 where
+  pub formal : y.formal ≡ number_in l x.formal
+  pub is_open : y.is_open ≡ x.is_open
+  pub value : AlikeValues l x.value y.value
+  pub known : Alike l x.known y.known
+
+abbrev pub pair_in : Link → ℕ × ℕ → ℕ × ℕ
+pair_in l c = (l.number c.0, l.number c.1)
 
 -- ---- meanings
 
 pub record AlikeBody (l : Link) (b c : Body) : Type 0 where
   pub function : c.function ≡ l.number b.function
-  pub generics : c.generics ≡ map (objects_in l) b.generics
-  pub parameters : c.parameters ≡ map (parameter_in l) b.parameters
-  pub result : c.result ≡ (λ e. b.result (through l e))
+  pub generics : AllZip (AlikeFormal l) b.generics c.generics
+  pub parameters : AllZip (AlikeParameter l) b.parameters c.parameters
+  pub result : Alike l b.result c.result
   pub statements : AlikeCommands l b.statements c.statements
+
+-- two ways to declare something for names, which agree again
+abbrev pub AlikeSettling : Link → (Env → Env) → (Env → Env) → Type 0
+AlikeSettling l f g = (e e' : Env) → Agree l e e' → Agree l (f e) (g e')
 
 pub record AlikeProcess (l : Link) (p q : Process) : Type 0 where
   pub declarations : AllZip (AlikeCommands l) p.declarations q.declarations
+  pub settling : AlikeSettling l p.settling q.settling
   pub statements : AlikeCommands l p.statements q.statements
-  pub sensitivity : q.sensitivity ≡ optional l p.sensitivity
-  pub targets : q.targets ≡ (λ e. p.targets (through l e))
+  pub sensitivity : AlikeOption l p.sensitivity q.sensitivity
+  pub targets : Alike l p.targets q.targets
 
 -- two nodes mean the same, facet by facet
 pub record AlikeMeaning (l : Link) (m n : Meaning) : Type 0 where
@@ -112,31 +140,35 @@ pub record AlikeMeaning (l : Link) (m n : Meaning) : Type 0 where
   pub mark : n.mark ≡ number_in l m.mark
   pub position : n.position ≡ m.position
   pub is_present : n.is_present ≡ m.is_present
-  pub value : n.value ≡ (λ known e. m.value known (through l e))
-  pub known : n.known ≡ (λ e. m.known (through l e))
-  pub reads : n.reads ≡ (λ e. m.reads (through l e))
-  pub range : n.range ≡ optional l m.range
-  pub name : n.name ≡ name_in l m.name
-  pub piece : (p : Named) → n.piece (name_in l p) ≡ name_in l (m.piece p)
+  pub value : AlikeValues l m.value n.value
+  pub known : Alike l m.known n.known
+  pub reads : Alike l m.reads n.reads
+  pub range : AlikeOption l m.range n.range
+  pub name : AlikeName l m.name n.name
+  pub piece : (p q : Named) → AlikeName l p q → AlikeName l (m.piece p) (n.piece q)
   pub association : n.association ≡ m.association
-  pub choices : n.choices ≡ map (choice_in l) m.choices
+  pub choices : AllZip (AlikeChoice l) m.choices n.choices
   pub is_open : n.is_open ≡ m.is_open
   pub mode : n.mode ≡ m.mode
-  pub covers : n.covers ≡ (λ c v e. m.covers c v (through l e))
-  pub chosen : (act act' : Waveform → Command) → ((w : Waveform) → AlikeCommands l (act w) (act' (waveform_in l w))) → AlikeCommands l (m.chosen act) (n.chosen act')
-  pub indicated : n.indicated ≡ (λ e. m.indicated (through l e))
-  pub fields : n.fields ≡ (λ e. m.fields (through l e))
+  pub covers : (c : Comparison) (v : Value Scalar) → Alike l (m.covers c v) (n.covers c v)
+  pub chosen : (act act' : Waveform → Command) → ((w x : Waveform) → AlikeWaveform l w x → AlikeCommands l (act w) (act' x)) → AlikeCommands l (m.chosen act) (n.chosen act')
+  pub indicated : Alike l m.indicated n.indicated
+  pub fields : Alike l m.fields n.fields
   pub texts : n.texts ≡ m.texts
   pub numbers : n.numbers ≡ map l.number m.numbers
-  pub objects : n.objects ≡ map (objects_in l) m.objects
-  pub parameters : n.parameters ≡ map (parameter_in l) m.parameters
+  pub objects : AllZip (AlikeObjects l) m.objects n.objects
+  pub parameters : AllZip (AlikeParameter l) m.parameters n.parameters
+  pub formals : AllZip (AlikeFormal l) m.formals n.formals
+  pub elements : AllZip (AlikeMapElement l) m.elements n.elements
+  pub actuals : Alike l m.actuals n.actuals
+  pub copies : n.copies ≡ map (pair_in l) m.copies
   pub command : (label : Option ℕ) → AlikeCommands l (m.command label) (n.command (number_in l label))
   pub otherwise : (c d : Command) → AlikeCommands l c d → AlikeCommands l (m.otherwise c) (n.otherwise d)
-  pub cases : (c : Comparison) (s : Env → Got (Value Scalar)) → AlikeCommands l (m.cases c s) (n.cases c (λ e. s (through l e)))
+  pub cases : (c : Comparison) (s s' : Env → Got (Value Scalar)) → Alike l s s' → AlikeCommands l (m.cases c s) (n.cases c s')
   pub declarations : AllZip (AlikeCommands l) m.declarations n.declarations
-  pub bodies : AllZip (AlikeBody l) m.bodies n.bodies
-  pub targets : n.targets ≡ (λ e. m.targets (through l e))
-  pub listening : (reads : Env → Got (List Signals)) → n.listening (λ e. reads (through l e)) ≡ optional l (m.listening reads)
+  pub settling : AlikeSettling l m.settling n.settling
+  pub targets : Alike l m.targets n.targets
+  pub listening : (reads reads' : Env → Got (List Signals)) → Alike l reads reads' → AlikeOption l (m.listening reads) (n.listening reads')
   pub processes : AllZip (AlikeProcess l) m.processes n.processes
 
 -- A tree with other numbers means the same.

@@ -157,6 +157,7 @@ impl World {
             name: Text::from_slice(alloc, name.as_bytes())?,
             mark,
             parameters: Declarations::of(parameters),
+            generics: Declarations::of(Vec::new(alloc)),
             inside,
             place: FIRST,
             made: Made::Written,

@@ -1,5 +1,5 @@
 -- The first name of an expression that is refused by what is visible alone, in the order of the text: 303, where nothing visible has the
--- name, and 307, where what has it can't stand there. A name is refused at its first token, but for an attribute that its prefix can't
+-- name, 302, where a library has no such unit yet, and 307, where what has it can't stand there. A name is refused at its first token, but for an attribute that its prefix can't
 -- have, which is refused behind the apostrophe. (IEEE 1076, visibility; names)
 use Rattle.std.specs.Prelude.{ℕ, Bool, true, false, List, [], ◌∷◌, Option, Some, None}
 use Rattle.vd_bytes.specs.declared.places.Place.{Place}

@@ -4,6 +4,7 @@
 -- has, and what can't stand there whatever the name means.
 use Rattle.std.specs.Prelude.{ℕ, ◌==◌, Bool, true, false, ◌||◌, not, List, [], ◌∷◌, Option, Some, None, if◌then◌else◌}
 use Rattle.vd_declarations.specs.declared.classes.Class.{Class}
+use Rattle.vd_declarations.specs.declared.classes.Class.TheVariants as class
 use Rattle.vd_declarations.specs.Classes.{is_overloadable}
 use Rattle.vd_forest.specs.Forest.{Forest, nothing, more, text_of}
 use Rattle.vd_forms.specs.declared.form.Form.{Form}
@@ -61,8 +62,17 @@ abbrev pub element_seen : Sight → List ℕ → Bool → Seen
 element_seen s [] signal = seen.Broken 303
 element_seen s (k ∷ ks) signal = value_seen (mark_of s k) signal
 
+-- a library has no such unit yet, or another unit no such declaration
+abbrev pub missing_in : Class → ℕ
+missing_in class.Library = 302
+missing_in _ = 303
+
+abbrev pub declared_seen : Sight → Class → List ℕ → Seen
+declared_seen s unit [] = seen.Broken (missing_in unit)
+declared_seen s unit (k ∷ ks) = first_seen s (k ∷ ks)
+
 abbrev pub selected_seen : Seen → Sight → List ℕ → Seen
-selected_seen (seen.Unit k) s name = first_seen s (s.selected k name)
+selected_seen (seen.Unit k) s name = declared_seen s (class_of s k) (s.selected k name)
 selected_seen (seen.Mark t) s name = seen.Broken 307
 selected_seen (seen.Valued t signal) s name = element_seen s (elements_named s t name) signal
 selected_seen seen.Ranged s name = seen.Unknown

@@ -4,7 +4,7 @@ ghost use Rattle.std.specs.Prelude.{◌≡◌, ◌||◌, IfOk, option_map};
 ghost use Rattle.vd_sights.specs.Kinds.{kind_of as kind_at, role_of as role_at};
 ghost use Rattle.vd_sights.specs.Sights.{sight_from, class_of, mark_of};
 ghost use Rattle.vd_ways.specs.Ways.{selection_name as name_selected};
-ghost use Rattle.vd_refusals.specs.Seen.{value_seen as seen_value, mark_seen as seen_mark, other_seen as seen_other, role_seen, first_seen, head_seen, element_seen, selected_seen, selection_seen, is_reverse as reverse, is_range_piece as range_piece, has_range_piece as range_pieces, path_step, path_from, path_seen, is_mark_seen as seen_as_mark, is_range_name, is_range_form, is_range_at, part_seen as seen_part, bracket_seen, attribute_seen as seen_attribute, qualification_seen as seen_qualification, piece_seen, pieces_seen, name_seen};
+ghost use Rattle.vd_refusals.specs.Seen.{value_seen as seen_value, mark_seen as seen_mark, other_seen as seen_other, role_seen, first_seen, head_seen, element_seen, missing_in as absent_in, declared_seen, selected_seen, selection_seen, is_reverse as reverse, is_range_piece as range_piece, has_range_piece as range_pieces, path_step, path_from, path_seen, is_mark_seen as seen_as_mark, is_range_name, is_range_form, is_range_at, part_seen as seen_part, bracket_seen, attribute_seen as seen_attribute, qualification_seen as seen_qualification, piece_seen, pieces_seen, name_seen};
 
 use crate::seen::Seen;
 use std::alloc::{AllocError, Global};
@@ -111,6 +111,27 @@ fn element_seen(at: &Surroundings<'_>, ids: &[DeclId], signal: bool) -> Seen
     }
 }
 
+/// The rule that is broken where a unit has no such declaration.
+fn missing_in(class: Class) -> u16
+    ensures { result ≡ absent_in class }
+{
+    match class {
+        Class::Library => 302,
+        _ => 303,
+    }
+}
+
+/// The first of what is selected of a unit.
+fn declared_seen(at: &Surroundings<'_>, unit: Class, ids: &[DeclId]) -> Seen
+    ensures { result ≡ declared_seen (sight_from at.now) unit ids.now }
+{
+    if ids.is_empty() {
+        Seen::Broken(missing_in(unit))
+    } else {
+        first_seen(at, ids)
+    }
+}
+
 /// What a name behind a point is.
 fn selected_seen(
     at: &Surroundings<'_>,
@@ -123,7 +144,7 @@ fn selected_seen(
     match prefix {
         Seen::Unit(unit) => {
             let selected = at.selected(alloc, *unit, name)?;
-            Ok(first_seen(at, &selected))
+            Ok(declared_seen(at, at.class_of(*unit), &selected))
         }
         Seen::Mark(_) => Ok(Seen::Broken(307)),
         Seen::Valued { mark, signal } => {

@@ -30,6 +30,7 @@ fn declaration(
         name: Text::from_slice(alloc, name.as_bytes())?,
         mark,
         parameters: Declarations::of(parameters),
+        generics: Declarations::of(Vec::new(alloc)),
         inside: None,
         place: Place {
             file: 0,

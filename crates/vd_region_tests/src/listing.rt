@@ -1,8 +1,9 @@
 //! What is given as a list of lines: the package, the kind, the name, and marks.
 
-use crate::world::{World, text_of};
+use crate::world::{World, add_label, given_regions, text_of, unlabelled};
 use std::alloc::{AllocError, Global};
-use vd_declarations::{Class, DeclId, Declaration};
+use std::io;
+use vd_declarations::{Class, DeclId, Declaration, TypeId};
 use vd_trees::Revision;
 
 /// The word of a class that is listed.
@@ -33,40 +34,54 @@ fn named_by(class: Class) -> Option<DeclId> {
 }
 
 /// Adds the name of a declaration behind a text.
-fn add_name(
-    alloc: Global,
-    world: &World,
-    text: &mut String,
-    between: &str,
-    id: DeclId,
-) -> Result<(), AllocError> {
+fn add_name(world: &World, between: &str, id: DeclId, text: &mut String) -> Result<(), AllocError> {
     text.push_str(between)?;
     if world.regions.is_declaration(id) {
-        let name = text_of(alloc, world.regions.declaration(id).name.as_slice())?;
-        text.push_str(&name)?;
+        text.push_str(text_of(world.regions.declaration(id).name.as_slice()))?;
     }
     Ok(())
 }
 
-/// The line of a declaration.
-fn line_of(alloc: Global, world: &World, declared: &Declaration) -> Result<String, AllocError> {
-    let mut text = String::from_str(alloc, word_of(declared.class))?;
+/// Adds the name of a type, where there is one.
+fn add_mark(
+    world: &World,
+    between: &str,
+    mark: Option<TypeId>,
+    text: &mut String,
+) -> Result<(), AllocError> {
+    match mark {
+        Some(mark) => add_name(world, between, DeclId::of(mark.number()), text),
+        None => Ok(()),
+    }
+}
+
+/// Adds the name and the mark of a parameter.
+fn add_parameter(world: &World, id: DeclId, text: &mut String) -> Result<(), AllocError> {
+    add_name(world, " ", id, text)?;
+    if world.regions.is_declaration(id) {
+        add_mark(world, ":", world.regions.declaration(id).mark, text)?;
+    }
+    Ok(())
+}
+
+/// Adds the line of a declaration.
+fn add_line(world: &World, declared: &Declaration, text: &mut String) -> Result<(), AllocError> {
+    text.push_str(word_of(declared.class))?;
     text.push(' ')?;
-    text.push_str(&text_of(alloc, declared.name.as_slice())?)?;
+    text.push_str(text_of(declared.name.as_slice()))?;
     for parameter in declared.parameters.as_slice() {
-        add_name(alloc, world, &mut text, " ", *parameter)?;
-        if world.regions.is_declaration(*parameter) {
-            if let Some(mark) = world.regions.declaration(*parameter).mark {
-                add_name(alloc, world, &mut text, ":", DeclId::of(mark.number()))?;
-            }
-        }
+        add_parameter(world, *parameter, text)?;
     }
     if let Some(named) = named_by(declared.class) {
-        add_name(alloc, world, &mut text, " of ", named)?;
+        add_name(world, " of ", named, text)?;
     }
-    if let Some(mark) = declared.mark {
-        add_name(alloc, world, &mut text, " ", DeclId::of(mark.number()))?;
-    }
+    add_mark(world, " ", declared.mark, text)
+}
+
+/// The line of a declaration.
+fn line_of(alloc: Global, world: &World, declared: &Declaration) -> Result<String, AllocError> {
+    let mut text = String::new(alloc);
+    add_line(world, declared, &mut text)?;
     Ok(text)
 }
 
@@ -86,6 +101,40 @@ fn lines_of(alloc: Global, world: &World) -> Result<Vec<String>, AllocError> {
     Ok(lines)
 }
 
+/// The lines of what is given in a revision.
+fn given_lines(alloc: Global, revision: Revision) -> Result<Vec<String>, AllocError> {
+    let world = unlabelled(alloc, given_regions(alloc, revision)?);
+    lines_of(alloc, &world)
+}
+
+/// The lines of a text but comments.
+fn listed_lines(alloc: Global, text: &str) -> Result<Vec<String>, AllocError> {
+    let mut lines = Vec::new(alloc);
+    for line in text.lines() {
+        if !line.starts_with("--") && !line.is_empty() {
+            add_label(alloc, &mut lines, line)?;
+        }
+    }
+    Ok(lines)
+}
+
+/// Says which lines aren't among others, and how many there are.
+fn say_missing(
+    rt: HostRuntime,
+    front: &str,
+    lines: &[String],
+    others: &[String],
+) -> io::Result<usize> {
+    let mut count: usize = 0;
+    for line in lines {
+        if !others.contains(line) {
+            println!(rt; "{front}: {line}")?;
+            count = count.saturating_add(1);
+        }
+    }
+    Ok(count)
+}
+
 /// Says which lines of a list are not given, and which of what is given the list lacks.
 pub fn compare_given(
     rt: HostRuntime,
@@ -93,31 +142,15 @@ pub fn compare_given(
     name: &str,
     text: &str,
 ) -> anyhow::Result<()> {
-    let world = World::given(rt.alloc(), revision)?;
-    let mut given = lines_of(rt.alloc(), &world)?;
-    let mut wanted = Vec::new(rt.alloc());
-    for line in text.lines() {
-        if !line.starts_with("--") && !line.is_empty() {
-            wanted.push(String::from_str(rt.alloc(), line)?)?;
-        }
-    }
-    given.sort()?;
-    wanted.sort()?;
-    let count = given.len();
-    let mut others: usize = 0;
-    for line in &wanted {
-        if !given.contains(line) {
-            println!(rt; "{name}: not given: {line}")?;
-            others = others.saturating_add(1);
-        }
-    }
-    for line in &given {
-        if !wanted.contains(line) {
-            println!(rt; "{name}: not in the list: {line}")?;
-            others = others.saturating_add(1);
-        }
-    }
-    let listed = wanted.len();
-    println!(rt; "{name}: {listed} lines, {count} given, {others} others")?;
+    let given = given_lines(rt.alloc(), revision)?;
+    let listed = listed_lines(rt.alloc(), text)?;
+    let more = say_missing(rt, "not given", &listed, &given)?;
+    let fewer = say_missing(rt, "not in the list", &given, &listed)?;
+    let others = more.saturating_add(fewer);
+    println!(rt;
+        "{name}: {} lines, {} given, {others} others",
+        listed.len(),
+        given.len()
+    )?;
     Ok(())
 }

@@ -9,22 +9,24 @@ mod world;
 
 use crate::listing::compare_given;
 use crate::steps::run_steps;
-use anyhow::bail;
 use std::{env, fs};
 use vd_trees::Revision;
+
+/// Does what a pair of words says.
+fn run(rt: HostRuntime, kind: &str, name: &str) -> anyhow::Result<()> {
+    let text = fs::read_to_string(&rt, name)?;
+    match kind {
+        "2019" => compare_given(rt, Revision::V2019, name, &text),
+        "1993" => compare_given(rt, Revision::V1993, name, &text),
+        _ => run_steps(rt, name, &text),
+    }
+}
 
 fn main(rt: HostRuntime) -> anyhow::Result<()> {
     let words: Vec<String> = env::args(&rt)?.skip(1).collect(rt.alloc())?;
     for pair in words.chunks(2) {
-        let [kind, name] = pair else {
-            bail!("the words are pairs");
-        };
-        let text = fs::read_to_string(&rt, name)?;
-        match kind.as_str() {
-            "2019" => compare_given(rt, Revision::V2019, name, &text)?,
-            "1993" => compare_given(rt, Revision::V1993, name, &text)?,
-            "steps" => run_steps(rt, name, &text)?,
-            _ => bail!("there is no such word"),
+        if let [kind, name] = pair {
+            run(rt, kind, name)?;
         }
     }
     Ok(())

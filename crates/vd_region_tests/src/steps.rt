@@ -1,16 +1,21 @@
 //! Steps and their answers. A line is a step, or the answer that the step before it must have, behind `=>`; `--` begins a comment.
 //!
 //!     new | given 2019 | given 1993
-//!     nest LABEL OUTER | body LABEL OUTER DECLARATION
+//!     nest OUTER LABEL | body OUTER LABEL DECLARATION
 //!     use REGION FROM [NAME] | close REGION
-//!     enter LABEL REGION CLASS NAME [mark=LABEL | number=N] [of=LABEL] [params=LABEL,LABEL] [inside=REGION]
-//!     visible REGION NAME | selected PLACE PREFIX NAME
+//!     enter REGION LABEL CLASS NAME [mark=LABEL | number=N] [of=LABEL] [params=LABEL,LABEL] [inside=REGION]
+//!     visible REGION NAME | selected REGION PREFIX NAME
+//!
+//! A function of a step says whether the world has what its words name, and puts the answer behind a text.
 
-use crate::words::declaration;
-use crate::world::World;
+use crate::words::{class_of, enter_with};
+use crate::world::{
+    World, add_label, given_regions, label_declarations, label_regions, unlabelled,
+};
 use std::alloc::{AllocError, Global};
+use std::io;
 use vd_declarations::{DeclId, RegionId};
-use vd_regions::EnterEnd;
+use vd_regions::{EnterEnd, Regions};
 use vd_trees::Revision;
 
 /// A region that the world has.
@@ -23,166 +28,287 @@ fn known(world: &World, label: &str) -> Option<RegionId> {
     }
 }
 
-/// The answer of a step that a word of it spoils.
-fn spoiled(alloc: Global) -> Result<String, AllocError> {
-    String::from_str(alloc, "what?")
-}
-
-/// A region more.
-fn nest(alloc: Global, world: &mut World, words: &[&str]) -> Result<String, AllocError> {
-    let (label, made) = match words {
-        ["nest", label, outer] => match known(world, outer) {
-            Some(outer) if world.regions.is_region(outer) => (label, world.regions.nest(outer)?),
-            _ => return spoiled(alloc),
-        },
-        ["body", label, outer, begun] => match (known(world, outer), known(world, begun)) {
-            (Some(outer), Some(begun))
-                if world.regions.is_region(outer) && world.regions.is_region(begun) => {
-                (label, world.regions.nest_body(outer, begun)?)
-            }
-            _ => return spoiled(alloc),
-        },
-        _ => return spoiled(alloc),
-    };
-    let _ = made;
-    world.region_labels.push(String::from_str(alloc, label)?)?;
-    Ok(String::new(alloc))
-}
-
-/// A use clause, or the end of a region.
-fn change(alloc: Global, world: &mut World, words: &[&str]) -> Result<String, AllocError> {
-    let [kind, label, rest @ ..] = words else {
-        return spoiled(alloc);
-    };
-    let Some(region) = known(world, label) else {
-        return spoiled(alloc);
-    };
-    if !world.regions.is_region(region) {
-        return spoiled(alloc);
-    }
-    match (*kind, rest) {
-        ("close", []) => world.regions.close(region),
-        ("use", [from]) => match known(world, from) {
-            Some(from) => world.regions.use_name(region, from, None)?,
-            None => return spoiled(alloc),
-        },
-        ("use", [from, name]) => match known(world, from) {
-            Some(from) => world.regions.use_name(region, from, Some(name))?,
-            None => return spoiled(alloc),
-        },
-        _ => return spoiled(alloc),
-    }
-    Ok(String::new(alloc))
-}
-
-/// A declaration more, or the homograph.
-fn enter(alloc: Global, world: &mut World, words: &[&str]) -> Result<String, AllocError> {
-    let [_, label, region, class, name, rest @ ..] = words else {
-        return spoiled(alloc);
-    };
-    let Some(region) = known(world, region) else {
-        return spoiled(alloc);
-    };
-    let Some(declared) = declaration(alloc, world, class, name, rest)? else {
-        return spoiled(alloc);
-    };
-    match world.regions.enter(region, name, declared) {
-        Ok(_) => {
-            world.labels.push(String::from_str(alloc, label)?)?;
-            String::from_str(alloc, "ok")
-        }
-        Err(end) => shown_end(alloc, world, end),
-    }
-}
-
-/// Why a declaration wasn't entered.
-fn shown_end(alloc: Global, world: &World, end: EnterEnd) -> Result<String, AllocError> {
-    match end {
-        EnterEnd::Homograph(first) => {
-            let mut text = String::from_str(alloc, "homograph ")?;
-            text.push_str(world.label(first))?;
-            Ok(text)
-        }
-        EnterEnd::Memory => String::from_str(alloc, "memory"),
-    }
-}
-
-/// The declarations of these labels, in order.
-fn shown(alloc: Global, world: &World, found: &[DeclId]) -> Result<String, AllocError> {
-    let mut text = String::new(alloc);
-    for id in found {
-        if !text.is_empty() {
-            text.push(' ')?;
-        }
-        text.push_str(world.label(*id))?;
-    }
-    Ok(text)
-}
-
-/// What is visible, or selected.
-fn look(alloc: Global, world: &World, words: &[&str]) -> Result<String, AllocError> {
-    match words {
-        ["visible", region, name] => match known(world, region) {
-            Some(region) => {
-                let found = world.regions.visible(alloc, region, name)?;
-                shown(alloc, world, &found)
-            }
-            None => spoiled(alloc),
-        },
-        ["selected", place, prefix, name] => match (known(world, place), world.id(prefix)) {
-            (Some(place), Some(prefix)) => {
-                let found = world.regions.selected(alloc, place, prefix, name)?;
-                shown(alloc, world, &found)
-            }
-            _ => spoiled(alloc),
-        },
-        _ => spoiled(alloc),
+/// The regions of another world.
+fn regions_of(alloc: Global, revision: &str) -> Result<Regions, AllocError> {
+    match revision {
+        "2019" => given_regions(alloc, Revision::V2019),
+        "1993" => given_regions(alloc, Revision::V1993),
+        _ => Regions::new(alloc),
     }
 }
 
 /// Another world.
-fn begin(alloc: Global, world: &mut World, words: &[&str]) -> Result<String, AllocError> {
-    *world = match words {
-        ["given", "2019"] => World::given(alloc, Revision::V2019)?,
-        ["given", "1993"] => World::given(alloc, Revision::V1993)?,
-        _ => World::new(alloc)?,
-    };
-    Ok(String::new(alloc))
+fn begin(alloc: Global, world: &mut World, revision: &str) -> Result<bool, AllocError> {
+    let regions = regions_of(alloc, revision)?;
+    *world = unlabelled(alloc, regions);
+    label_regions(alloc, world)?;
+    label_declarations(alloc, world)?;
+    Ok(true)
 }
 
-/// The answer of a step.
-fn answer(alloc: Global, world: &mut World, words: &[&str]) -> Result<String, AllocError> {
-    match words {
-        ["new" | "given", ..] => begin(alloc, world, words),
-        ["nest" | "body", ..] => nest(alloc, world, words),
-        ["use" | "close", ..] => change(alloc, world, words),
-        ["enter", ..] => enter(alloc, world, words),
-        _ => look(alloc, world, words),
+/// A region more in another one.
+fn nest(
+    alloc: Global,
+    world: &mut World,
+    outer: RegionId,
+    label: &str,
+) -> Result<bool, AllocError> {
+    if !world.regions.is_region(outer) {
+        return Ok(false);
     }
+    world.regions.nest(outer)?;
+    add_label(alloc, &mut world.region_labels, label)?;
+    Ok(true)
+}
+
+/// The region of a body in another one.
+fn nest_body(
+    alloc: Global,
+    world: &mut World,
+    outer: RegionId,
+    label: &str,
+    begun: &str,
+) -> Result<bool, AllocError> {
+    let Some(begun) = known(world, begun) else {
+        return Ok(false);
+    };
+    if !world.regions.is_region(outer) || !world.regions.is_region(begun) {
+        return Ok(false);
+    }
+    world.regions.nest_body(outer, begun)?;
+    add_label(alloc, &mut world.region_labels, label)?;
+    Ok(true)
+}
+
+/// A use clause, of all names where none stands.
+fn use_name(
+    world: &mut World,
+    region: RegionId,
+    from: &str,
+    name: &str,
+) -> Result<bool, AllocError> {
+    let Some(from) = known(world, from) else {
+        return Ok(false);
+    };
+    if !world.regions.is_region(region) {
+        return Ok(false);
+    }
+    let name = if name.is_empty() { None } else { Some(name) };
+    world.regions.use_name(region, from, name)?;
+    Ok(true)
+}
+
+/// The end of a region.
+fn close(world: &mut World, region: RegionId) -> bool {
+    let is_region = world.regions.is_region(region);
+    if is_region {
+        world.regions.close(region);
+    }
+    is_region
+}
+
+/// Why a declaration isn't entered.
+fn show_end(world: &World, end: EnterEnd, answer: &mut String) -> Result<bool, AllocError> {
+    match end {
+        EnterEnd::Homograph(first) => {
+            answer.push_str("homograph ")?;
+            answer.push_str(world.label(first))?;
+            Ok(true)
+        }
+        EnterEnd::Memory => Err(AllocError),
+    }
+}
+
+/// A declaration more, or the homograph.
+fn enter(
+    alloc: Global,
+    world: &mut World,
+    region: RegionId,
+    words: &[&str],
+    answer: &mut String,
+) -> Result<bool, AllocError> {
+    let [label, class, name, rest @ ..] = words else {
+        return Ok(false);
+    };
+    let Some(class) = class_of(world, class, rest) else {
+        return Ok(false);
+    };
+    match enter_with(alloc, world, region, class, name, rest) {
+        Ok(_) => {
+            add_label(alloc, &mut world.labels, label)?;
+            answer.push_str("ok")?;
+            Ok(true)
+        }
+        Err(end) => show_end(world, end, answer),
+    }
+}
+
+/// The labels of declarations, in order.
+fn show(world: &World, found: &[DeclId], answer: &mut String) -> Result<bool, AllocError> {
+    for id in found {
+        if !answer.is_empty() {
+            answer.push(' ')?;
+        }
+        answer.push_str(world.label(*id))?;
+    }
+    Ok(true)
+}
+
+/// What is visible.
+fn visible(
+    alloc: Global,
+    world: &World,
+    region: RegionId,
+    name: &str,
+    answer: &mut String,
+) -> Result<bool, AllocError> {
+    let found = world.regions.visible(alloc, region, name)?;
+    show(world, &found, answer)
+}
+
+/// What is selected.
+fn selected(
+    alloc: Global,
+    world: &World,
+    region: RegionId,
+    prefix: &str,
+    name: &str,
+    answer: &mut String,
+) -> Result<bool, AllocError> {
+    let Some(prefix) = world.id(prefix) else {
+        return Ok(false);
+    };
+    let found = world.regions.selected(alloc, region, prefix, name)?;
+    show(world, &found, answer)
+}
+
+/// A word, where there are so many.
+fn word<'a>(words: &[&'a str], at: usize) -> &'a str {
+    match words.get(at) {
+        Some(word) => word,
+        None => "",
+    }
+}
+
+/// Carries out a step at a region, with the words behind the region's.
+fn step_at(
+    alloc: Global,
+    world: &mut World,
+    kind: &str,
+    region: RegionId,
+    words: &[&str],
+    answer: &mut String,
+) -> Result<bool, AllocError> {
+    let first = word(words, 0);
+    let second = word(words, 1);
+    match kind {
+        "nest" => nest(alloc, world, region, first),
+        "body" => nest_body(alloc, world, region, first, second),
+        "use" => use_name(world, region, first, second),
+        "close" => Ok(close(world, region)),
+        "enter" => enter(alloc, world, region, words, answer),
+        "visible" => visible(alloc, world, region, first, answer),
+        "selected" => selected(alloc, world, region, first, second, answer),
+        _ => Ok(false),
+    }
+}
+
+/// Carries out a step.
+fn step(
+    alloc: Global,
+    world: &mut World,
+    words: &[&str],
+    answer: &mut String,
+) -> Result<bool, AllocError> {
+    let kind = word(words, 0);
+    if kind == "new" || kind == "given" {
+        return begin(alloc, world, word(words, 1));
+    }
+    match (known(world, word(words, 1)), words.get(2..)) {
+        (Some(region), Some(rest)) => step_at(alloc, world, kind, region, rest, answer),
+        _ => Ok(false),
+    }
+}
+
+/// What the steps made, the last answer, and how many answers there were, and how many other ones.
+#[derive(Drop)]
+struct Steps {
+    world: World,
+    last: String,
+    answers: usize,
+    others: usize,
+}
+
+/// Carries out the step of a line.
+fn take_step(alloc: Global, steps: &mut Steps, line: &str) -> Result<bool, AllocError> {
+    let words: Vec<&str> = line.split_whitespace().collect(alloc)?;
+    steps.last.clear();
+    step(alloc, &mut steps.world, &words, &mut steps.last)
+}
+
+fn say(rt: HostRuntime, name: &str, at: usize, text: &str) -> io::Result<()> {
+    println!(rt; "{name}:{at}: {text}")?;
+    Ok(())
+}
+
+/// Compares the last answer with the wanted one.
+fn compare(
+    rt: HostRuntime,
+    steps: &mut Steps,
+    name: &str,
+    at: usize,
+    wanted: &str,
+) -> io::Result<()> {
+    steps.answers = steps.answers.saturating_add(1);
+    if wanted != steps.last.as_str() {
+        steps.others = steps.others.saturating_add(1);
+        say(rt, name, at, steps.last.as_str())?;
+    }
+    Ok(())
+}
+
+/// Reads a line.
+fn read(
+    rt: HostRuntime,
+    steps: &mut Steps,
+    name: &str,
+    at: usize,
+    line: &str,
+) -> anyhow::Result<()> {
+    if let Some(wanted) = line.strip_prefix("=>") {
+        compare(rt, steps, name, at, wanted.trim())?;
+    } else if !line.is_empty() && !line.starts_with("--") && !take_step(rt.alloc(), steps, line)? {
+        say(rt, name, at, "no step")?;
+    }
+    Ok(())
+}
+
+/// A world of nothing, of which nothing was asked.
+fn begun(alloc: Global) -> Result<Steps, AllocError> {
+    Ok(Steps {
+        world: unlabelled(alloc, Regions::new(alloc)?),
+        last: String::new(alloc),
+        answers: 0,
+        others: 0,
+    })
+}
+
+/// Reads all lines, and says how many answers are others than the lines have.
+fn read_all(rt: HostRuntime, steps: &mut Steps, name: &str, text: &str) -> anyhow::Result<()> {
+    for (number, line) in text.lines().enumerate() {
+        read(rt, steps, name, number.saturating_add(1), line)?;
+    }
+    let Steps {
+        answers,
+        others,
+        ..
+    } = steps;
+    println!(rt; "{name}: {answers} answers, {others} others")?;
+    Ok(())
 }
 
 /// Carries out the steps of a file, and says which answers are others than the lines have.
 pub fn run_steps(rt: HostRuntime, name: &str, text: &str) -> anyhow::Result<()> {
-    let mut world = World::new(rt.alloc())?;
-    let mut last = String::new(rt.alloc());
-    let mut count: usize = 0;
-    let mut wrong: usize = 0;
-    for (number, line) in text.lines().enumerate() {
-        let at = number.saturating_add(1);
-        if let Some(wanted) = line.strip_prefix("=>") {
-            count = count.saturating_add(1);
-            if wanted.trim() != last.as_str() {
-                println!(rt; "{name}:{at}: {last}")?;
-                wrong = wrong.saturating_add(1);
-            }
-        } else if !line.starts_with("--") && !line.is_empty() {
-            let words: Vec<&str> = line.split_whitespace().collect(rt.alloc())?;
-            last = answer(rt.alloc(), &mut world, &words)?;
-            if last.as_str() == "what?" {
-                println!(rt; "{name}:{at}: no step")?;
-            }
-        }
-    }
-    println!(rt; "{name}: {count} answers, {wrong} others")?;
-    Ok(())
+    let mut steps = begun(rt.alloc())?;
+    read_all(rt, &mut steps, name, text)
 }

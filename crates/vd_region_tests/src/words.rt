@@ -1,21 +1,13 @@
 //! The words of a step that enters a declaration.
 
-ghost use Rattle.std.specs.Prelude.{◌≡◌, IfOk, IfSome};
-
 use crate::world::World;
 use std::alloc::{AllocError, Global};
 use vd_bytes::{Place, Text};
 use vd_declarations::{Class, DeclId, Declaration, Declarations, Made, RegionId, TypeId};
+use vd_regions::EnterEnd;
 
-/// What a word `key=value` says, or else 0.
-fn number_of(world: &World, words: &[&str], key: &str) -> Option<u32> {
-    let label = value_of(words, key)?;
-    let id = world.id(label)?;
-    Some(id.number())
-}
-
-/// What stands behind a key.
-fn value_of<'a>(words: &[&'a str], key: &str) -> Option<&'a str> {
+/// What stands behind a key, in a word `key=value`.
+pub fn value_of<'a>(words: &[&'a str], key: &str) -> Option<&'a str> {
     for word in words {
         if let Some((own, value)) = word.split_once('=') {
             if own == key {
@@ -26,59 +18,62 @@ fn value_of<'a>(words: &[&'a str], key: &str) -> Option<&'a str> {
     None
 }
 
+/// The number of the declaration that `key=LABEL` names.
+fn number_of(world: &World, words: &[&str], key: &str) -> Option<u32> {
+    let label = value_of(words, key)?;
+    let id = world.id(label)?;
+    Some(id.number())
+}
+
 /// The class that a word names. `of` is the declaration that it names besides.
-fn class_of(word: &str, of: u32) -> Option<Class> {
-    Some(match word {
-        "library" => Class::Library,
-        "library_name" => Class::LibraryName {
-            library: DeclId::of(of),
-        },
-        "entity" => Class::Entity,
-        "architecture" => Class::Architecture,
-        "package" => Class::Package,
-        "uninstantiated_package" => Class::UninstantiatedPackage,
-        "package_instance" => Class::PackageInstance,
-        _ => return object_class(word, of),
-    })
+pub fn class_of(world: &World, word: &str, words: &[&str]) -> Option<Class> {
+    let of = number_of(world, words, "of").unwrap_or(0);
+    for (own, class) in &PLAIN_CLASSES {
+        if *own == word {
+            return Some(*class);
+        }
+    }
+    naming_class(word, of)
 }
 
-/// The class of what no design unit is.
-fn object_class(word: &str, of: u32) -> Option<Class> {
-    Some(match word {
-        "constant" => Class::Constant,
-        "signal" => Class::Signal,
-        "port" => Class::Port,
-        "parameter" => Class::Parameter,
-        "label" => Class::Label,
-        "record" => Class::RecordType,
-        "element" => Class::RecordElement,
-        "enumeration" => Class::EnumerationType,
-        "literal" => Class::EnumerationLiteral,
-        _ => return function_class(word, of),
-    })
-}
+/// The words of classes that name no declaration.
+const PLAIN_CLASSES: [(&str, Class); 20] = [
+    ("library", Class::Library),
+    ("entity", Class::Entity),
+    ("architecture", Class::Architecture),
+    ("package", Class::Package),
+    ("uninstantiated_package", Class::UninstantiatedPackage),
+    ("package_instance", Class::PackageInstance),
+    ("constant", Class::Constant),
+    ("signal", Class::Signal),
+    ("port", Class::Port),
+    ("parameter", Class::Parameter),
+    ("label", Class::Label),
+    ("record", Class::RecordType),
+    ("element", Class::RecordElement),
+    ("enumeration", Class::EnumerationType),
+    ("literal", Class::EnumerationLiteral),
+    ("function", Class::Function),
+    ("uninstantiated_function", Class::UninstantiatedFunction),
+    ("generic_function", Class::GenericFunction),
+    ("instance_function", Class::InstanceFunction),
+    ("operator", Class::PredefinedOperator),
+];
 
-/// The class of a function, an operator or a subtype.
-fn function_class(word: &str, of: u32) -> Option<Class> {
-    Some(match word {
-        "array" => Class::ArrayType {
+/// The class of what names a declaration besides.
+fn naming_class(word: &str, of: u32) -> Option<Class> {
+    let id = DeclId::of(of);
+    match word {
+        "library_name" => Some(Class::LibraryName { library: id }),
+        "array" => Some(Class::ArrayType {
             index: TypeId::of(0),
             element: TypeId::of(of),
-            element_mark: DeclId::of(of),
-        },
-        "subtype" => Class::Subtype {
-            mark: DeclId::of(of),
-        },
-        "function" => Class::Function,
-        "uninstantiated_function" => Class::UninstantiatedFunction,
-        "generic_function" => Class::GenericFunction,
-        "instance_function" => Class::InstanceFunction,
-        "actual_function" => Class::ActualFunction {
-            actual: DeclId::of(of),
-        },
-        "operator" => Class::PredefinedOperator,
-        _ => return None,
-    })
+            element_mark: id,
+        }),
+        "subtype" => Some(Class::Subtype { mark: id }),
+        "actual_function" => Some(Class::ActualFunction { actual: id }),
+        _ => None,
+    }
 }
 
 /// The parameters that `params=a,b` names.
@@ -103,37 +98,42 @@ fn mark_of(world: &World, words: &[&str]) -> Option<TypeId> {
     Some(TypeId::of(number))
 }
 
-/// The declaration that the words `CLASS NAME key=value ..` describe.
-pub fn declaration(
+/// The region that `inside=LABEL` names.
+fn inside_of(world: &World, words: &[&str]) -> Option<RegionId> {
+    world.region(value_of(words, "inside")?)
+}
+
+/// Enters a declaration of a class under a name, with what the words say of it.
+pub fn enter_with(
     alloc: Global,
-    world: &World,
-    class: &str,
+    world: &mut World,
+    region: RegionId,
+    class: Class,
     name: &str,
     words: &[&str],
-) -> Result<Option<Declaration>, AllocError>
-    ensures { IfOk result (λ o. IfSome o (λ d. d.name ≡ name.now)) }
-{
-    let of = number_of(world, words, "of").unwrap_or(0);
-    let Some(class) = class_of(class, of) else {
-        return Ok(None);
-    };
-    let inside: Option<RegionId> = match value_of(words, "inside") {
-        Some(label) => world.region(label),
-        None => None,
-    };
+) -> Result<DeclId, EnterEnd> {
     let mark = mark_of(world, words);
-    Ok(Some(Declaration {
-        class,
-        name: Text::from_slice(alloc, name.as_bytes())?,
-        mark,
-        parameters: Declarations::of(parameters(alloc, world, words)?),
-        inside,
-        place: Place {
-            file: 0,
-            line: 1,
-            column: 1,
+    let inside = inside_of(world, words);
+    let parameters = parameters(alloc, world, words)?;
+    let own = Text::from_slice(alloc, name.as_bytes())?;
+    let wanted = Text::from_slice(alloc, name.as_bytes())?;
+    world.regions.enter(
+        region,
+        name,
+        Declaration {
+            class,
+            name: own,
+            mark,
+            parameters: Declarations::of(parameters),
+            generics: Declarations::of(Vec::new(alloc)),
+            inside,
+            place: Place {
+                file: 0,
+                line: 1,
+                column: 1,
+            },
+            made: Made::Written,
+            wanted,
         },
-        made: Made::Written,
-        wanted: Text::from_slice(alloc, name.as_bytes())?,
-    }))
+    )
 }

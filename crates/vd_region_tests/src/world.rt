@@ -14,7 +14,7 @@ pub struct World {
     pub labels: Vec<String>,
 }
 
-/// The labels of the regions that are given.
+/// The labels of the first regions that are given.
 const GIVEN_REGIONS: &[&str] = &[
     "root",
     "unnamed",
@@ -25,48 +25,58 @@ const GIVEN_REGIONS: &[&str] = &[
     "std_logic_1164",
 ];
 
+/// A world with these regions, in which nothing has a label.
+pub fn unlabelled(alloc: Global, regions: Regions) -> World {
+    World {
+        regions,
+        region_labels: Vec::new(alloc),
+        labels: Vec::new(alloc),
+    }
+}
+
+/// The regions that are given in a revision.
+pub fn given_regions(alloc: Global, revision: Revision) -> Result<Regions, AllocError> {
+    let mut regions = Regions::new(alloc)?;
+    given(alloc, &mut regions, revision)?;
+    Ok(regions)
+}
+
+/// Adds a label behind others.
+pub fn add_label(alloc: Global, labels: &mut Vec<String>, label: &str) -> Result<(), AllocError> {
+    let own = String::from_str(alloc, label)?;
+    labels.push(own)?;
+    Ok(())
+}
+
+/// Gives the regions that are given their labels, and those behind them none.
+pub fn label_regions(alloc: Global, world: &mut World) -> Result<(), AllocError> {
+    for number in 0..4294967295u32 {
+        if !world.regions.is_region(RegionId::of(number)) {
+            break;
+        }
+        let label = match GIVEN_REGIONS.get(number as usize) {
+            Some(label) => label,
+            None => "",
+        };
+        add_label(alloc, &mut world.region_labels, label)?;
+    }
+    Ok(())
+}
+
+/// Gives each declaration its name as label.
+pub fn label_declarations(alloc: Global, world: &mut World) -> Result<(), AllocError> {
+    for number in 0..4294967295u32 {
+        let id = DeclId::of(number);
+        if !world.regions.is_declaration(id) {
+            break;
+        }
+        let name = world.regions.declaration(id).name.as_slice();
+        add_label(alloc, &mut world.labels, text_of(name))?;
+    }
+    Ok(())
+}
+
 impl World {
-    /// The region `root` alone.
-    pub fn new(alloc: Global) -> Result<World, AllocError> {
-        let mut region_labels = Vec::new(alloc);
-        region_labels.push(String::from_str(alloc, "root")?)?;
-        Ok(World {
-            regions: Regions::new(alloc)?,
-            region_labels,
-            labels: Vec::new(alloc),
-        })
-    }
-
-    /// What is given in a revision. Each declaration has its name as label.
-    pub fn given(alloc: Global, revision: Revision) -> Result<World, AllocError> {
-        let mut regions = Regions::new(alloc)?;
-        given(alloc, &mut regions, revision)?;
-        let mut region_labels = Vec::new(alloc);
-        for label in GIVEN_REGIONS {
-            region_labels.push(String::from_str(alloc, label)?)?;
-        }
-        for number in region_labels.len()..4294967295 {
-            if !regions.is_region(RegionId::of(number as u32)) {
-                break;
-            }
-            region_labels.push(String::new(alloc))?;
-        }
-        let mut labels = Vec::new(alloc);
-        for number in 0..4294967295u32 {
-            let id = DeclId::of(number);
-            if !regions.is_declaration(id) {
-                break;
-            }
-            let name = regions.declaration(id).name.as_slice();
-            labels.push(text_of(alloc, name)?)?;
-        }
-        Ok(World {
-            regions,
-            region_labels,
-            labels,
-        })
-    }
-
     /// The region of a label, the newest where several have it.
     pub fn region(&self, label: &str) -> Option<RegionId> {
         let at = last_of(&self.region_labels, label)?;
@@ -100,9 +110,9 @@ fn last_of(labels: &[String], label: &str) -> Option<u32> {
 }
 
 /// Bytes as a text, where they are one.
-pub fn text_of(alloc: Global, bytes: &[u8]) -> Result<String, AllocError> {
+pub fn text_of(bytes: &[u8]) -> &str {
     match str::from_utf8(bytes) {
-        Ok(text) => String::from_str(alloc, text),
-        Err(_) => String::from_str(alloc, "?"),
+        Ok(text) => text,
+        Err(_) => "?",
     }
 }

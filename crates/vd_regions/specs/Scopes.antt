@@ -36,7 +36,7 @@ first_place = record { file = 0; line = 1; column = 1 }
 
 abbrev pub no_declaration : Declaration
 no_declaration =
-    record { class = class.Label; name = []; mark = None; parameters = []; inside = None; place = first_place; made = made.Written; wanted = [] }
+    record { class = class.Label; name = []; mark = None; parameters = []; generics = []; inside = None; place = first_place; made = made.Written; wanted = [] }
 
 abbrev pub nothing_entered : Entered
 nothing_entered = record { region = 0; declaration = no_declaration }

@@ -35,6 +35,7 @@ OnSome P (Some k) = P k
 pub record IsAmong (declarations : List Declaration) (d : Declaration) : Type 0 where
   pub mark : OnSome (IsType declarations) d.mark
   pub parameters : All (IsOwn declarations) d.parameters
+  pub generics : All (IsOwn declarations) d.generics
   pub named : All (IsOwn declarations) (named_by d.class)
   pub types : All (IsType declarations) (types_of d.class)
 

@@ -20,6 +20,7 @@ fn declare(
         name: Text::from_slice(alloc, name.as_bytes())?,
         mark: mark.map(TypeId::of),
         parameters: Declarations::of(Vec::new(alloc)),
+        generics: Declarations::of(Vec::new(alloc)),
         inside: None,
         place: Place {
             file: 0,

@@ -1,0 +1,4 @@
+pub mod CoverLemmas
+pub mod PatternLemmas
+pub mod Sweeps
+pub mod TextLemmas

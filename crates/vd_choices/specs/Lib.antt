@@ -1,0 +1,5 @@
+pub mod Bits
+pub mod Intervals
+pub mod Patterns
+pub mod TextOrder
+pub mod Texts

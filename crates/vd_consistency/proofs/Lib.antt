@@ -1,0 +1,16 @@
+pub mod Steps
+pub mod Parting
+pub mod Running
+pub mod Reading
+pub mod Naming
+pub mod Nodes
+pub mod Doing
+pub mod Cases
+pub mod Turning
+pub mod Objects
+pub mod Associating
+pub mod Elaborating
+pub mod Nesting
+pub mod Trees
+pub mod Sound
+pub mod Designs

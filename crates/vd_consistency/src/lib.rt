@@ -1,0 +1,4 @@
+//! An elaborated design is consistent.
+#![tactic(auto)]
+
+pub mod laws;

@@ -1,0 +1,10 @@
+pub mod Designs
+pub mod Once
+pub mod Matching
+pub mod FirstChoice
+pub mod Delayed
+pub mod Overflow
+pub mod Elements
+pub mod BoundsOfSlices
+pub mod Pulses
+pub mod Facts

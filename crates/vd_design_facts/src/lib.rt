@@ -1,0 +1,4 @@
+//! Designs of revision 2019, from their texts, and what they show when they run: facts that are computed.
+#![tactic(auto)]
+
+pub mod facts;

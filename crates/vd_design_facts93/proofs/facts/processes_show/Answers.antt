@@ -1,0 +1,5 @@
+use Rattle.vd_design_facts93.proofs.Computed.{processes}
+use Rattle.vd_design_facts93.proofs.facts.processes_show.Goals as goal
+
+pub returns : goal.returns
+returns c = processes

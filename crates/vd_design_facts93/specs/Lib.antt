@@ -1,0 +1,10 @@
+pub mod Once
+pub mod Delayed
+pub mod Implicit
+pub mod Alternatives
+pub mod Overflow
+pub mod Drivers
+pub mod Converted
+pub mod BothWays
+pub mod BoundsOfSlices
+pub mod Facts

@@ -1,0 +1,4 @@
+pub mod PieceLemmas
+pub mod SenseLemmas
+pub mod StackLemmas
+pub mod VisitLemmas

@@ -1,0 +1,7 @@
+pub mod Evaluated
+pub mod Operands
+pub mod Outlines
+pub mod Pieces
+pub mod Senses
+pub mod Taken
+pub mod Visits

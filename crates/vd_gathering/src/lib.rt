@@ -1,0 +1,8 @@
+//! All answers of the nodes of a forest, in the order of its text, gathered by a loop.
+#![tactic(auto)]
+
+pub mod gathering;
+#[cfg(test)]
+mod tests;
+
+pub use gathering::find_all;

@@ -1,0 +1,9 @@
+pub mod Implicit
+pub mod Actuals
+pub mod GenericPorts
+pub mod Alternatives
+pub mod Indexes
+pub mod Drivers
+pub mod Converted
+pub mod BothWays
+pub mod Facts

@@ -1,0 +1,3 @@
+pub mod OrderLaws
+pub mod LeastLaws
+pub mod LeastLemmas

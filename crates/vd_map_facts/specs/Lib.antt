@@ -1,0 +1,4 @@
+pub mod Expressions
+pub mod Packages
+pub mod Paths
+pub mod Views

@@ -1,0 +1,4 @@
+//! Laws of maps, which passes and the conversion cite.
+#![tactic(auto)]
+
+pub mod laws;

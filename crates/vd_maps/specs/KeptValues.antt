@@ -1,0 +1,64 @@
+-- What packages declare keeps its values: each constant an equal one, each function for all arguments an equal one with equal bounds, or a stop of the same kind. (IEEE 1076,
+-- elaboration of a package; subprograms.)
+use Rattle.std.specs.Prelude.{◌≡◌, ℕ, List, [], ◌∷◌, ◌++◌, map, Option, Some, Ok, Err, IsTrue, Contains, bytes_eq, if◌then◌else◌}
+use Rattle.vd_values.specs.declared.scalar.Scalar.{Scalar}
+use Rattle.vd_trees.specs.declared.revision.Revision.{Revision}
+use Rattle.vd_trees.specs.declared.revision.Revision.TheVariants.{V2019, V1993}
+use Rattle.vd_trees.specs.declared.rows.Row.{Row}
+use Rattle.vd_composites.specs.Composites.{Value}
+use Rattle.vd_resolved.specs.Trees.{ResolvedTree}
+use Rattle.vd_environments.specs.Got.{Got}
+use Rattle.vd_environments.specs.Environments.{Argument, Denotation, Env}
+use Rattle.vd_elaboration.specs.Building.{Built, State}
+use Rattle.vd_elaboration.specs.Elaborations.{units_of, hierarchy_of, beginning, with_packages}
+use Rattle.vd_maps.specs.Joins.{map_of}
+use Rattle.vd_maps.specs.SameRuns.{EndAlike}
+use Rattle.vd_maps.specs.Interfaces.{Kind, Type', Subtype', Constant', Function', Item, UnitInterface, OfEntity, OfArchitecture, OfPackage, interface_of, keeps_item}
+
+-- the evaluation of the units in the order of analysis, without a top
+abbrev pub packages_elaborated : Revision → ResolvedTree → Built State
+packages_elaborated r tree = let u = units_of r tree in with_packages (hierarchy_of u) [] u.units beginning
+
+-- ---- what two declarations have in common
+
+abbrev pub SameResult : Got (Value Scalar) → Got (Value Scalar) → Type 0
+SameResult (Ok v) (Ok w) = v ≡ w
+SameResult (Ok v) (Err h) = ⊥
+SameResult (Err h) (Ok w) = ⊥
+SameResult (Err h) (Err k) = h.kind ≡ k.kind
+
+abbrev pub arguments : List (Value Scalar) → List Argument
+arguments values = map (λ v subtype. Ok v) values
+
+abbrev pub SameMeaning : Kind → Denotation → Denotation → Type 0
+SameMeaning Type' x y = Unit {0}
+SameMeaning Subtype' x y = Unit {0}
+SameMeaning Constant' x y = x.value ≡ y.value
+SameMeaning Function' x y = (values : List (Value Scalar)) → SameResult (x.function (arguments values)) (y.function (arguments values))
+
+abbrev pub KeepsMeaning : Env → Env → Kind → Option ℕ → Option ℕ → Type 0
+KeepsMeaning e f kind (Some d) (Some c) = SameMeaning kind (e.denotes d) (f.denotes c)
+KeepsMeaning e f kind _ _ = ⊥
+
+-- ---- packages
+
+abbrev pub items_shown : List ℕ → List UnitInterface → List Item
+items_shown name [] = []
+items_shown name (OfPackage own items ∷ us) = (if bytes_eq own name then items else []) ++ items_shown name us
+items_shown name (OfEntity own generics ports ∷ us) = items_shown name us
+items_shown name (OfArchitecture own entity ∷ us) = items_shown name us
+
+-- What a package declares means what it means that stands for it in the package of that name.
+pub record ValuesAreKept (names : ℕ → List ℕ) (rows : List Row) (tree19 tree93 : ResolvedTree) (e f : Env) : Type 0 where
+  pub kept : (package_name : List ℕ) (a b : Item) → Contains (items_shown package_name (interface_of tree19)) a → Contains (items_shown package_name (interface_of tree93)) b
+      → IsTrue (keeps_item names rows a b) → KeepsMeaning e f a.kind a.number b.number
+
+-- or both evaluations end alike
+abbrev pub SamePackages : (ℕ → List ℕ) → List Row → ResolvedTree → ResolvedTree → Built State → Built State → Type 0
+SamePackages names rows tree19 tree93 (Ok s) (Ok t) = ValuesAreKept names rows tree19 tree93 s.env t.env
+SamePackages names rows tree19 tree93 (Ok s) (Err g) = ⊥
+SamePackages names rows tree19 tree93 (Err f) (Ok t) = ⊥
+SamePackages names rows tree19 tree93 (Err f) (Err g) = EndAlike (map_of rows) f g
+
+pub record PackagesAreKept (names : ℕ → List ℕ) (rows : List Row) (tree19 tree93 : ResolvedTree) : Type 0 where
+  pub kept : SamePackages names rows tree19 tree93 (packages_elaborated V2019 tree19) (packages_elaborated V1993 tree93)

@@ -1,0 +1,11 @@
+pub mod Interfaces
+pub mod Joins
+pub mod KeptValues
+pub mod Marks
+pub mod RowOrders
+pub mod SameRuns
+pub mod SameTraces
+pub mod Tests
+pub mod Tops
+pub mod Units
+pub mod WholeMaps

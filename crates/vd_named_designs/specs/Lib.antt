@@ -1,0 +1,5 @@
+pub mod Instances
+pub mod FunctionInstances
+pub mod NestedViews
+pub mod Links
+pub mod Facts

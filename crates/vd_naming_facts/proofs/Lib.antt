@@ -1,0 +1,3 @@
+mod Packages
+mod Functions
+mod Views

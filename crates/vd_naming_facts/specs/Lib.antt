@@ -1,0 +1,5 @@
+pub mod Trees
+pub mod Packages
+pub mod Functions
+pub mod Views
+pub mod Facts

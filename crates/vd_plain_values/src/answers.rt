@@ -1,0 +1,38 @@
+//! Values, or the stops in their places.
+
+ghost use Rattle.std.specs.Prelude.{◌≡◌, IfOk};
+ghost use Rattle.vd_values.specs.declared.scalar.Scalar.{Scalar};
+ghost use Rattle.vd_composites.specs.Answers.{Answers};
+ghost use Rattle.vd_composites.specs.Composites.{Value as AnyValue};
+ghost use Rattle.vd_composites.specs.Stops.{OrStop};
+
+use std::alloc::{AllocError, Global};
+use vd_composites::{Value, ValueEnd};
+use vd_values::StopKind;
+
+/// The value, or the stop in its place.
+pub fn settled(answer: Result<Value, ValueEnd>) -> Result<Result<Value, StopKind>, AllocError>
+    ensures { (g : OrStop (AnyValue Scalar)) → Answers answer g → IfOk result (λ r. r ≡ g) }
+{
+    match answer {
+        Ok(value) => Ok(Ok(value)),
+        Err(ValueEnd::Stop(kind)) => Ok(Err(kind)),
+        Err(ValueEnd::Memory) => Err(AllocError),
+    }
+}
+
+/// The value or the stop again.
+pub fn again(
+    alloc: Global,
+    found: &Result<Value, StopKind>,
+) -> Result<Result<Value, StopKind>, AllocError>
+    ensures { IfOk result (λ r. r ≡ found.now) }
+{
+    match found {
+        Ok(value) => {
+            let copy = value.duplicate(alloc)?;
+            Ok(Ok(copy))
+        }
+        Err(kind) => Ok(Err(*kind)),
+    }
+}

@@ -1,0 +1,3 @@
+pub mod NamesAnswers
+pub mod RulesAnswers
+pub mod AcceptedAnswers

@@ -1,0 +1,4 @@
+pub mod Regions
+pub mod Closings
+pub mod Designators
+pub mod TextRules

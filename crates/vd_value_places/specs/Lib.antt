@@ -1,0 +1,4 @@
+pub mod Places
+pub mod Conversions
+pub mod Laws
+pub mod Plain

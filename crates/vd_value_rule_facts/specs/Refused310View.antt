@@ -1,0 +1,145 @@
+-- The tree of a design. Written by tools/resolved-trees from examples/refused/310_view.vhd, which is of revision 2019:
+--
+-- package p is
+--   type link is record
+--     d : bit;
+--     r : bit;
+--   end record;
+--   view tx of link is
+--     d : out;
+--     r : in;
+--   end view;
+-- end package;
+-- entity sub is
+--   port (l : view work.p.tx);
+-- end entity;
+-- architecture a of sub is
+-- begin
+-- end architecture;
+-- entity e is
+-- end entity;
+-- architecture a of e is
+--   signal s : work.p.link;
+-- begin
+--   u : entity work.sub port map (l => (s));
+-- end architecture;
+use Rattle.std.specs.Prelude.{List, [], ◌∷◌, Some, None, codes}
+use Rattle.vd_declarations.specs.declared.classes.Class.TheVariants as class
+use Rattle.vd_declarations.specs.declared.declarations.Declaration.{Declaration}
+use Rattle.vd_forest.specs.Forest.{Forest}
+use Rattle.vd_forms.specs.declared.form.Form.TheVariants as form
+use Rattle.vd_resolved.specs.declared.node.Resolved.{Resolved}
+use Rattle.vd_given.specs.Entries.{declared}
+use Rattle.vd_given.specs.declared.numbers.TheConstants.{BOOLEAN, BIT, INTEGER}
+use Rattle.vd_value_rule_facts.specs.Trees.{node, plain, absent, of, leaf}
+use Rattle.vd_trees.specs.declared.revision.Revision.TheVariants.{V2019}
+use Rattle.vd_resolved.specs.Trees.{ResolvedTree}
+use Rattle.vd_value_rule_facts.specs.Trees.{designed}
+
+abbrev pub declarations : List Declaration
+declarations =
+    declared class.Package (codes "p") None []
+    ∷ declared class.RecordType (codes "link") None (465 ∷ 466 ∷ [])
+    ∷ declared class.RecordElement (codes "d") (Some BIT) []
+    ∷ declared class.RecordElement (codes "r") (Some BIT) []
+    ∷ declared class.Parameter (codes "l") (Some 464) []
+    ∷ declared class.Parameter (codes "r") (Some 464) []
+    ∷ declared class.Parameter (codes "l") (Some INTEGER) []
+    ∷ declared class.Parameter (codes "r") (Some INTEGER) []
+    ∷ declared class.PredefinedOperator (codes "\"=\"") (Some BOOLEAN) (467 ∷ 468 ∷ [])
+    ∷ declared class.PredefinedOperator (codes "\"/=\"") (Some BOOLEAN) (467 ∷ 468 ∷ [])
+    ∷ declared class.View (codes "tx") None []
+    ∷ declared class.Entity (codes "sub") None (475 ∷ [])
+    ∷ declared class.Port (codes "l") (Some 464) []
+    ∷ declared class.Architecture (codes "a") None []
+    ∷ declared class.Entity (codes "e") None []
+    ∷ declared class.Architecture (codes "a") None []
+    ∷ declared class.Signal (codes "s") (Some 464) []
+    ∷ declared class.Label (codes "u") None [] ∷ []
+
+abbrev pub package_p : Forest Resolved
+package_p =
+    plain 1 1 form.DesignUnit
+    (plain 0 0 form.ContextClause []
+    ∷ plain 1 9 form.PackageDeclaration
+    (node 1 9 form.Identifier (Some 463) None 0 (codes "p") [] ∷ absent
+    ∷ plain 2 3 form.DeclarativePart
+    (node 2 8 form.TypeDeclaration (Some 464) None 0 []
+    (node 2 8 form.Identifier (Some 464) None 0 (codes "link") []
+    ∷ plain 3 5 form.RecordType
+    (plain 3 5 form.RecordElements
+    (plain 3 5 form.RecordElement
+    (plain 3 5 form.IdentifierList (node 3 5 form.Identifier (Some 465) None 0 (codes "d") [] ∷ [])
+    ∷ plain 3 9 form.SubtypeIndication (node 3 9 form.SelectedName (Some BIT) None 0 [] (leaf 3 9 form.Identifier (codes "bit") ∷ []) ∷ absent ∷ []) ∷ [])
+    ∷ plain 4 5 form.RecordElement
+    (plain 4 5 form.IdentifierList (node 4 5 form.Identifier (Some 466) None 0 (codes "r") [] ∷ [])
+    ∷ plain 4 9 form.SubtypeIndication (node 4 9 form.SelectedName (Some BIT) None 0 [] (leaf 4 9 form.Identifier (codes "bit") ∷ []) ∷ absent ∷ []) ∷ []) ∷ [])
+    ∷ absent ∷ []) ∷ [])
+    ∷ node 6 3 form.ViewDeclaration (Some 473) None 0 []
+    (node 6 8 form.Identifier (Some 473) None 0 (codes "tx") []
+    ∷ node 6 14 form.SelectedName (Some 464) None 0 [] (leaf 6 14 form.Identifier (codes "link") ∷ [])
+    ∷ plain 7 5 form.ViewElements
+    (plain 7 5 form.ViewElement
+    (plain 7 5 form.IdentifierList (node 7 5 form.Identifier (Some 465) None 0 (codes "d") [] ∷ []) ∷ plain 7 9 form.Out [] ∷ [])
+    ∷ plain 8 5 form.ViewElement
+    (plain 8 5 form.IdentifierList (node 8 5 form.Identifier (Some 466) None 0 (codes "r") [] ∷ []) ∷ plain 8 9 form.In [] ∷ []) ∷ [])
+    ∷ absent ∷ []) ∷ [])
+    ∷ plain 10 1 form.Closing (plain 0 0 form.ClosingWord [] ∷ absent ∷ []) ∷ []) ∷ [])
+
+abbrev pub entity_sub : Forest Resolved
+entity_sub =
+    plain 11 1 form.DesignUnit
+    (plain 0 0 form.ContextClause []
+    ∷ plain 11 8 form.EntityDeclaration
+    (node 11 8 form.Identifier (Some 474) None 0 (codes "sub") [] ∷ absent
+    ∷ plain 12 9 form.PortClause
+    (plain 12 9 form.ViewPort
+    (absent ∷ plain 12 9 form.IdentifierList (node 12 9 form.Identifier (Some 475) None 0 (codes "l") [] ∷ [])
+    ∷ node 12 18 form.SelectedName (Some 473) None 0 []
+    (leaf 12 18 form.Identifier (codes "work") ∷ leaf 12 23 form.Identifier (codes "p") ∷ leaf 12 25 form.Identifier (codes "tx") ∷ [])
+    ∷ absent ∷ absent ∷ []) ∷ [])
+    ∷ plain 13 1 form.Closing (plain 0 0 form.ClosingWord [] ∷ absent ∷ []) ∷ []) ∷ [])
+
+abbrev pub architecture_a_of_sub : Forest Resolved
+architecture_a_of_sub =
+    plain 14 1 form.DesignUnit
+    (plain 0 0 form.ContextClause []
+    ∷ plain 14 14 form.ArchitectureBody
+    (node 14 14 form.Identifier (Some 476) None 0 (codes "a") [] ∷ node 14 19 form.Identifier (Some 474) None 0 (codes "sub") []
+    ∷ plain 15 1 form.DeclarativePart [] ∷ plain 0 0 form.StatementPart [] ∷ plain 16 1 form.Closing (plain 0 0 form.ClosingWord [] ∷ absent ∷ []) ∷ []) ∷ [])
+
+abbrev pub entity_e : Forest Resolved
+entity_e =
+    plain 17 1 form.DesignUnit
+    (plain 0 0 form.ContextClause []
+    ∷ plain 17 8 form.EntityDeclaration
+    (node 17 8 form.Identifier (Some 477) None 0 (codes "e") [] ∷ absent ∷ absent ∷ plain 18 1 form.Closing (plain 0 0 form.ClosingWord [] ∷ absent ∷ []) ∷ []) ∷ [])
+
+abbrev pub architecture_a_of_e : Forest Resolved
+architecture_a_of_e =
+    plain 19 1 form.DesignUnit
+    (plain 0 0 form.ContextClause []
+    ∷ plain 19 14 form.ArchitectureBody
+    (node 19 14 form.Identifier (Some 478) None 0 (codes "a") [] ∷ node 19 19 form.Identifier (Some 477) None 0 (codes "e") []
+    ∷ plain 20 3 form.DeclarativePart
+    (plain 20 3 form.SignalDeclaration
+    (plain 20 10 form.IdentifierList (node 20 10 form.Identifier (Some 479) None 0 (codes "s") [] ∷ [])
+    ∷ plain 20 14 form.SubtypeIndication
+    (node 20 14 form.SelectedName (Some 464) None 0 []
+    (leaf 20 14 form.Identifier (codes "work") ∷ leaf 20 19 form.Identifier (codes "p") ∷ leaf 20 21 form.Identifier (codes "link") ∷ [])
+    ∷ absent ∷ [])
+    ∷ absent ∷ []) ∷ [])
+    ∷ plain 22 3 form.StatementPart
+    (plain 22 3 form.LabelledConcurrent
+    (node 22 3 form.Identifier (Some 480) None 0 (codes "u") []
+    ∷ plain 22 7 form.EntityInstantiation
+    (node 22 14 form.SelectedName (Some 474) None 0 [] (leaf 22 14 form.Identifier (codes "work") ∷ leaf 22 19 form.Identifier (codes "sub") ∷ [])
+    ∷ absent ∷ absent
+    ∷ plain 22 23 form.PortMap
+    (plain 22 33 form.Association
+    (plain 22 33 form.AssociationChoices (node 22 33 form.Name (Some 475) None 0 [] (leaf 22 33 form.Identifier (codes "l") ∷ []) ∷ [])
+    ∷ of 22 38 form.Aggregate 464 (of 22 39 form.Name 464 (node 22 39 form.Identifier (Some 479) (Some 464) 0 (codes "s") [] ∷ []) ∷ []) ∷ []) ∷ []) ∷ []) ∷ []) ∷ [])
+    ∷ plain 23 1 form.Closing (plain 0 0 form.ClosingWord [] ∷ absent ∷ []) ∷ []) ∷ [])
+
+abbrev pub design : ResolvedTree
+design = designed V2019 (package_p ∷ entity_sub ∷ architecture_a_of_sub ∷ entity_e ∷ architecture_a_of_e ∷ []) declarations

@@ -1,0 +1,63 @@
+-- The tree of a design. Written by tools/resolved-trees from examples/refused/403_select.vhd, which is of revision 2019:
+--
+-- entity e is
+-- end entity;
+-- architecture a of e is
+--   signal s : bit;
+--   signal t : bit;
+-- begin
+--   with s select t <= '1' when '0';
+-- end architecture;
+use Rattle.std.specs.Prelude.{List, [], ◌∷◌, Some, None, codes}
+use Rattle.vd_declarations.specs.declared.classes.Class.TheVariants as class
+use Rattle.vd_declarations.specs.declared.declarations.Declaration.{Declaration}
+use Rattle.vd_forest.specs.Forest.{Forest}
+use Rattle.vd_forms.specs.declared.form.Form.TheVariants as form
+use Rattle.vd_resolved.specs.declared.node.Resolved.{Resolved}
+use Rattle.vd_given.specs.Entries.{declared}
+use Rattle.vd_given.specs.declared.numbers.TheConstants.{BIT}
+use Rattle.vd_value_rule_facts.specs.Trees.{node, plain, absent, of, leaf}
+use Rattle.vd_trees.specs.declared.revision.Revision.TheVariants.{V2019}
+use Rattle.vd_resolved.specs.Trees.{ResolvedTree}
+use Rattle.vd_value_rule_facts.specs.Trees.{designed}
+
+abbrev pub declarations : List Declaration
+declarations =
+    declared class.Entity (codes "e") None []
+    ∷ declared class.Architecture (codes "a") None []
+    ∷ declared class.Signal (codes "s") (Some BIT) []
+    ∷ declared class.Signal (codes "t") (Some BIT) [] ∷ []
+
+abbrev pub entity_e : Forest Resolved
+entity_e =
+    plain 1 1 form.DesignUnit
+    (plain 0 0 form.ContextClause []
+    ∷ plain 1 8 form.EntityDeclaration
+    (node 1 8 form.Identifier (Some 463) None 0 (codes "e") [] ∷ absent ∷ absent ∷ plain 2 1 form.Closing (plain 0 0 form.ClosingWord [] ∷ absent ∷ []) ∷ []) ∷ [])
+
+abbrev pub architecture_a_of_e : Forest Resolved
+architecture_a_of_e =
+    plain 3 1 form.DesignUnit
+    (plain 0 0 form.ContextClause []
+    ∷ plain 3 14 form.ArchitectureBody
+    (node 3 14 form.Identifier (Some 464) None 0 (codes "a") [] ∷ node 3 19 form.Identifier (Some 463) None 0 (codes "e") []
+    ∷ plain 4 3 form.DeclarativePart
+    (plain 4 3 form.SignalDeclaration
+    (plain 4 10 form.IdentifierList (node 4 10 form.Identifier (Some 465) None 0 (codes "s") [] ∷ [])
+    ∷ plain 4 14 form.SubtypeIndication (node 4 14 form.SelectedName (Some BIT) None 0 [] (leaf 4 14 form.Identifier (codes "bit") ∷ []) ∷ absent ∷ [])
+    ∷ absent ∷ [])
+    ∷ plain 5 3 form.SignalDeclaration
+    (plain 5 10 form.IdentifierList (node 5 10 form.Identifier (Some 466) None 0 (codes "t") [] ∷ [])
+    ∷ plain 5 14 form.SubtypeIndication (node 5 14 form.SelectedName (Some BIT) None 0 [] (leaf 5 14 form.Identifier (codes "bit") ∷ []) ∷ absent ∷ [])
+    ∷ absent ∷ []) ∷ [])
+    ∷ plain 7 3 form.StatementPart
+    (plain 7 3 form.SelectedSignalAssignment
+    (of 7 8 form.Name BIT (node 7 8 form.Identifier (Some 465) (Some BIT) 0 (codes "s") [] ∷ []) ∷ absent
+    ∷ of 7 17 form.Name BIT (node 7 17 form.Identifier (Some 466) (Some BIT) 0 (codes "t") [] ∷ []) ∷ absent
+    ∷ plain 7 22 form.SelectedWaveform
+    (node 7 22 form.Letter (Some 10) (Some BIT) 1 (codes "1") []
+    ∷ plain 7 31 form.Choices (node 7 31 form.Letter (Some 9) (Some BIT) 0 (codes "0") [] ∷ []) ∷ []) ∷ []) ∷ [])
+    ∷ plain 8 1 form.Closing (plain 0 0 form.ClosingWord [] ∷ absent ∷ []) ∷ []) ∷ [])
+
+abbrev pub design : ResolvedTree
+design = designed V2019 (entity_e ∷ architecture_a_of_e ∷ []) declarations

@@ -1,0 +1,98 @@
+-- The tree of a design. Written by tools/resolved-trees from examples/refused/405_conversion_93.vhd, which is of revision 1993:
+--
+-- library ieee;
+-- use ieee.std_logic_1164.all;
+-- entity e is
+-- end entity;
+-- architecture a of e is
+--   signal s, t : std_logic_vector(0 to 3);
+--   signal u : std_ulogic_vector(0 to 3);
+-- begin
+--   process
+--   begin
+--     case std_logic_vector(u) is
+--       when "0000" => null;
+--       when others => null;
+--     end case;
+--     wait;
+--   end process;
+-- end architecture;
+use Rattle.std.specs.Prelude.{List, [], ◌∷◌, Some, None, codes}
+use Rattle.vd_declarations.specs.declared.classes.Class.TheVariants as class
+use Rattle.vd_declarations.specs.declared.declarations.Declaration.{Declaration}
+use Rattle.vd_forest.specs.Forest.{Forest}
+use Rattle.vd_forms.specs.declared.form.Form.TheVariants as form
+use Rattle.vd_resolved.specs.declared.node.Resolved.{Resolved}
+use Rattle.vd_given.specs.Entries.{declared}
+use Rattle.vd_given.specs.declared.numbers.TheConstants.{INTEGER, STD_ULOGIC_VECTOR, STD_LOGIC_VECTOR}
+use Rattle.vd_value_rule_facts.specs.Trees.{node, plain, absent, of, leaf}
+use Rattle.vd_trees.specs.declared.revision.Revision.TheVariants.{V1993}
+use Rattle.vd_resolved.specs.Trees.{ResolvedTree}
+use Rattle.vd_value_rule_facts.specs.Trees.{designed}
+
+abbrev pub declarations : List Declaration
+declarations =
+    declared (class.LibraryName 2) (codes "ieee") None []
+    ∷ declared class.Entity (codes "e") None []
+    ∷ declared class.Architecture (codes "a") None []
+    ∷ declared class.Signal (codes "s") (Some STD_LOGIC_VECTOR) []
+    ∷ declared class.Signal (codes "t") (Some STD_LOGIC_VECTOR) []
+    ∷ declared class.Signal (codes "u") (Some STD_ULOGIC_VECTOR) [] ∷ []
+
+abbrev pub entity_e : Forest Resolved
+entity_e =
+    plain 1 1 form.DesignUnit
+    (plain 1 1 form.ContextClause
+    (plain 1 1 form.LibraryClause (node 1 9 form.Identifier (Some 387) None 0 (codes "ieee") [] ∷ [])
+    ∷ plain 2 1 form.UseClause
+    (node 2 5 form.SelectedName (Some 4) None 0 []
+    (leaf 2 5 form.Identifier (codes "ieee") ∷ leaf 2 10 form.Identifier (codes "std_logic_1164") ∷ plain 2 25 form.All [] ∷ []) ∷ []) ∷ [])
+    ∷ plain 3 8 form.EntityDeclaration
+    (node 3 8 form.Identifier (Some 388) None 0 (codes "e") [] ∷ absent ∷ absent ∷ plain 4 1 form.Closing (plain 0 0 form.ClosingWord [] ∷ absent ∷ []) ∷ []) ∷ [])
+
+abbrev pub architecture_a_of_e : Forest Resolved
+architecture_a_of_e =
+    plain 5 1 form.DesignUnit
+    (plain 0 0 form.ContextClause []
+    ∷ plain 5 14 form.ArchitectureBody
+    (node 5 14 form.Identifier (Some 389) None 0 (codes "a") [] ∷ node 5 19 form.Identifier (Some 388) None 0 (codes "e") []
+    ∷ plain 6 3 form.DeclarativePart
+    (plain 6 3 form.SignalDeclaration
+    (plain 6 10 form.IdentifierList
+    (node 6 10 form.Identifier (Some 390) None 0 (codes "s") [] ∷ node 6 13 form.Identifier (Some 391) None 0 (codes "t") [] ∷ [])
+    ∷ plain 6 17 form.SubtypeIndication
+    (node 6 17 form.SelectedName (Some STD_LOGIC_VECTOR) None 0 [] (leaf 6 17 form.Identifier (codes "std_logic_vector") ∷ [])
+    ∷ plain 6 34 form.IndexConstraint
+    (of 6 34 form.Ascending INTEGER
+    (node 6 34 form.Number None (Some INTEGER) 0 (codes "0") [] ∷ node 6 39 form.Number None (Some INTEGER) 0 (codes "3") [] ∷ []) ∷ []) ∷ [])
+    ∷ absent ∷ [])
+    ∷ plain 7 3 form.SignalDeclaration
+    (plain 7 10 form.IdentifierList (node 7 10 form.Identifier (Some 392) None 0 (codes "u") [] ∷ [])
+    ∷ plain 7 14 form.SubtypeIndication
+    (node 7 14 form.SelectedName (Some STD_ULOGIC_VECTOR) None 0 [] (leaf 7 14 form.Identifier (codes "std_ulogic_vector") ∷ [])
+    ∷ plain 7 32 form.IndexConstraint
+    (of 7 32 form.Ascending INTEGER
+    (node 7 32 form.Number None (Some INTEGER) 0 (codes "0") [] ∷ node 7 37 form.Number None (Some INTEGER) 0 (codes "3") [] ∷ []) ∷ []) ∷ [])
+    ∷ absent ∷ []) ∷ [])
+    ∷ plain 9 3 form.StatementPart
+    (plain 9 3 form.ProcessStatement
+    (absent ∷ absent ∷ plain 10 3 form.DeclarativePart []
+    ∷ plain 11 5 form.Statements
+    (plain 11 5 form.CaseStatement
+    (absent
+    ∷ of 11 10 form.Name STD_LOGIC_VECTOR
+    (node 11 10 form.Identifier (Some STD_LOGIC_VECTOR) None 0 (codes "std_logic_vector") []
+    ∷ node 11 26 form.Arguments (Some STD_LOGIC_VECTOR) (Some STD_LOGIC_VECTOR) 0 []
+    (of 11 27 form.Name STD_ULOGIC_VECTOR (node 11 27 form.Identifier (Some 392) (Some STD_ULOGIC_VECTOR) 0 (codes "u") [] ∷ []) ∷ []) ∷ [])
+    ∷ plain 12 12 form.CaseAlternatives
+    (plain 12 12 form.CaseAlternative
+    (plain 12 12 form.Choices (node 12 12 form.Quoted None (Some STD_LOGIC_VECTOR) 0 (codes "0000") [] ∷ [])
+    ∷ plain 12 22 form.Statements (plain 12 22 form.NullStatement [] ∷ []) ∷ [])
+    ∷ plain 13 12 form.CaseAlternative (plain 13 12 form.Others [] ∷ plain 13 22 form.Statements (plain 13 22 form.NullStatement [] ∷ []) ∷ []) ∷ [])
+    ∷ absent ∷ absent ∷ [])
+    ∷ plain 15 5 form.WaitStatement (absent ∷ absent ∷ absent ∷ []) ∷ [])
+    ∷ absent ∷ []) ∷ [])
+    ∷ plain 17 1 form.Closing (plain 0 0 form.ClosingWord [] ∷ absent ∷ []) ∷ []) ∷ [])
+
+abbrev pub design : ResolvedTree
+design = designed V1993 (entity_e ∷ architecture_a_of_e ∷ []) declarations

@@ -1,0 +1,68 @@
+-- The tree of a design. Written by tools/resolved-trees from examples/refused/405_unconstrained.vhd, which is of revision 2019:
+--
+-- entity e is
+-- end entity;
+-- architecture a of e is
+--   constant c : bit_vector := "0101";
+-- begin
+--   process
+--   begin
+--     case c is
+--       when others => null;
+--     end case;
+--     wait;
+--   end process;
+-- end architecture;
+use Rattle.std.specs.Prelude.{List, [], ◌∷◌, Some, None, codes}
+use Rattle.vd_declarations.specs.declared.classes.Class.TheVariants as class
+use Rattle.vd_declarations.specs.declared.declarations.Declaration.{Declaration}
+use Rattle.vd_forest.specs.Forest.{Forest}
+use Rattle.vd_forms.specs.declared.form.Form.TheVariants as form
+use Rattle.vd_resolved.specs.declared.node.Resolved.{Resolved}
+use Rattle.vd_given.specs.Entries.{declared}
+use Rattle.vd_given.specs.declared.numbers.TheConstants.{BIT_VECTOR}
+use Rattle.vd_value_rule_facts.specs.Trees.{node, plain, absent, of, leaf}
+use Rattle.vd_trees.specs.declared.revision.Revision.TheVariants.{V2019}
+use Rattle.vd_resolved.specs.Trees.{ResolvedTree}
+use Rattle.vd_value_rule_facts.specs.Trees.{designed}
+
+abbrev pub declarations : List Declaration
+declarations =
+    declared class.Entity (codes "e") None []
+    ∷ declared class.Architecture (codes "a") None []
+    ∷ declared class.Constant (codes "c") (Some BIT_VECTOR) [] ∷ []
+
+abbrev pub entity_e : Forest Resolved
+entity_e =
+    plain 1 1 form.DesignUnit
+    (plain 0 0 form.ContextClause []
+    ∷ plain 1 8 form.EntityDeclaration
+    (node 1 8 form.Identifier (Some 463) None 0 (codes "e") [] ∷ absent ∷ absent ∷ plain 2 1 form.Closing (plain 0 0 form.ClosingWord [] ∷ absent ∷ []) ∷ []) ∷ [])
+
+abbrev pub architecture_a_of_e : Forest Resolved
+architecture_a_of_e =
+    plain 3 1 form.DesignUnit
+    (plain 0 0 form.ContextClause []
+    ∷ plain 3 14 form.ArchitectureBody
+    (node 3 14 form.Identifier (Some 464) None 0 (codes "a") [] ∷ node 3 19 form.Identifier (Some 463) None 0 (codes "e") []
+    ∷ plain 4 3 form.DeclarativePart
+    (plain 4 3 form.ConstantDeclaration
+    (plain 4 12 form.IdentifierList (node 4 12 form.Identifier (Some 465) None 0 (codes "c") [] ∷ [])
+    ∷ plain 4 16 form.SubtypeIndication
+    (node 4 16 form.SelectedName (Some BIT_VECTOR) None 0 [] (leaf 4 16 form.Identifier (codes "bit_vector") ∷ []) ∷ absent ∷ [])
+    ∷ node 4 30 form.Quoted None (Some BIT_VECTOR) 0 (codes "0101") [] ∷ []) ∷ [])
+    ∷ plain 6 3 form.StatementPart
+    (plain 6 3 form.ProcessStatement
+    (absent ∷ absent ∷ plain 7 3 form.DeclarativePart []
+    ∷ plain 8 5 form.Statements
+    (plain 8 5 form.CaseStatement
+    (absent ∷ of 8 10 form.Name BIT_VECTOR (node 8 10 form.Identifier (Some 465) (Some BIT_VECTOR) 0 (codes "c") [] ∷ [])
+    ∷ plain 9 12 form.CaseAlternatives
+    (plain 9 12 form.CaseAlternative (plain 9 12 form.Others [] ∷ plain 9 22 form.Statements (plain 9 22 form.NullStatement [] ∷ []) ∷ []) ∷ [])
+    ∷ absent ∷ absent ∷ [])
+    ∷ plain 11 5 form.WaitStatement (absent ∷ absent ∷ absent ∷ []) ∷ [])
+    ∷ absent ∷ []) ∷ [])
+    ∷ plain 13 1 form.Closing (plain 0 0 form.ClosingWord [] ∷ absent ∷ []) ∷ []) ∷ [])
+
+abbrev pub design : ResolvedTree
+design = designed V2019 (entity_e ∷ architecture_a_of_e ∷ []) declarations

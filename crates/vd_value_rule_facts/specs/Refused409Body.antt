@@ -1,0 +1,67 @@
+-- The tree of a design. Written by tools/resolved-trees from examples/refused/409_body.vhd, which is of revision 2019:
+--
+-- package p is
+--   function f(x : bit) return bit;
+-- end package;
+-- package body p is
+--   function f(y : bit) return bit is
+--   begin
+--     return y;
+--   end;
+-- end package body;
+use Rattle.std.specs.Prelude.{List, [], ◌∷◌, Some, None, codes}
+use Rattle.vd_declarations.specs.declared.classes.Class.TheVariants as class
+use Rattle.vd_declarations.specs.declared.declarations.Declaration.{Declaration}
+use Rattle.vd_forest.specs.Forest.{Forest}
+use Rattle.vd_forms.specs.declared.form.Form.TheVariants as form
+use Rattle.vd_resolved.specs.declared.node.Resolved.{Resolved}
+use Rattle.vd_given.specs.Entries.{declared}
+use Rattle.vd_given.specs.declared.numbers.TheConstants.{BIT}
+use Rattle.vd_value_rule_facts.specs.Trees.{node, plain, absent, of, leaf}
+use Rattle.vd_trees.specs.declared.revision.Revision.TheVariants.{V2019}
+use Rattle.vd_resolved.specs.Trees.{ResolvedTree}
+use Rattle.vd_value_rule_facts.specs.Trees.{designed}
+
+abbrev pub declarations : List Declaration
+declarations =
+    declared class.Package (codes "p") None []
+    ∷ declared class.Parameter (codes "x") (Some BIT) []
+    ∷ declared class.Function (codes "f") (Some BIT) (464 ∷ []) ∷ []
+
+abbrev pub package_p : Forest Resolved
+package_p =
+    plain 1 1 form.DesignUnit
+    (plain 0 0 form.ContextClause []
+    ∷ plain 1 9 form.PackageDeclaration
+    (node 1 9 form.Identifier (Some 463) None 0 (codes "p") [] ∷ absent
+    ∷ plain 2 3 form.DeclarativePart
+    (node 2 3 form.FunctionDeclaration (Some 465) None 0 []
+    (absent ∷ node 2 12 form.Identifier (Some 465) None 0 (codes "f") [] ∷ absent ∷ absent
+    ∷ plain 2 13 form.ParameterList
+    (plain 2 14 form.ParameterDeclaration
+    (absent ∷ plain 2 14 form.IdentifierList (node 2 14 form.Identifier (Some 464) None 0 (codes "x") [] ∷ []) ∷ absent
+    ∷ plain 2 18 form.SubtypeIndication (node 2 18 form.SelectedName (Some BIT) None 0 [] (leaf 2 18 form.Identifier (codes "bit") ∷ []) ∷ absent ∷ []) ∷ []) ∷ [])
+    ∷ node 2 30 form.SelectedName (Some BIT) None 0 [] (leaf 2 30 form.Identifier (codes "bit") ∷ []) ∷ []) ∷ [])
+    ∷ plain 3 1 form.Closing (plain 0 0 form.ClosingWord [] ∷ absent ∷ []) ∷ []) ∷ [])
+
+abbrev pub body_of_p : Forest Resolved
+body_of_p =
+    plain 4 1 form.DesignUnit
+    (plain 0 0 form.ContextClause []
+    ∷ plain 4 14 form.PackageBody
+    (node 4 14 form.Identifier (Some 463) None 0 (codes "p") []
+    ∷ plain 5 3 form.DeclarativePart
+    (node 5 3 form.FunctionBody (Some 465) None 0 []
+    (absent ∷ node 5 12 form.Identifier (Some 465) None 0 (codes "f") [] ∷ absent ∷ absent
+    ∷ plain 5 13 form.ParameterList
+    (plain 5 14 form.ParameterDeclaration
+    (absent ∷ plain 5 14 form.IdentifierList (node 5 14 form.Identifier (Some 464) None 0 (codes "y") [] ∷ []) ∷ absent
+    ∷ plain 5 18 form.SubtypeIndication (node 5 18 form.SelectedName (Some BIT) None 0 [] (leaf 5 18 form.Identifier (codes "bit") ∷ []) ∷ absent ∷ []) ∷ []) ∷ [])
+    ∷ node 5 30 form.SelectedName (Some BIT) None 0 [] (leaf 5 30 form.Identifier (codes "bit") ∷ []) ∷ plain 6 3 form.DeclarativePart []
+    ∷ plain 7 5 form.Statements
+    (plain 7 5 form.ReturnStatement (of 7 12 form.Name BIT (node 7 12 form.Identifier (Some 464) (Some BIT) 0 (codes "y") [] ∷ []) ∷ []) ∷ [])
+    ∷ plain 8 3 form.FunctionClosing (absent ∷ absent ∷ []) ∷ []) ∷ [])
+    ∷ plain 9 1 form.Closing (plain 0 0 form.ClosingWord [] ∷ absent ∷ []) ∷ []) ∷ [])
+
+abbrev pub design : ResolvedTree
+design = designed V2019 (package_p ∷ body_of_p ∷ []) declarations

@@ -1,0 +1,4 @@
+//! The rules that need types, values and static names, for both revisions: definitions that contracts cite.
+#![tactic(auto)]
+
+pub mod laws;

@@ -1,0 +1,2 @@
+//! The weight of a design: definitions that contracts cite.
+#![tactic(auto)]

@@ -1,0 +1,155 @@
+"""Writes syntax trees with their places as antt definitions."""
+
+import re
+
+import vhdl_all_places
+
+WIDTH = 150
+
+
+def codes(text):
+    return '(codes "%s")' % text.replace("\\", "\\\\").replace('"', '\\"')
+
+
+def head(node):
+    """A node without its parts; whether it takes parts."""
+    line, column = node.place
+    at = f"form.{node.form} {line} {column}"
+    if node.text:
+        return f"leaf {at} {codes(node.text)}", False
+    return f"node {at}", True
+
+
+def lines_of(node):
+    """A node as lines that are to be put behind one another."""
+    first, takes = head(node)
+    if not takes:
+        return [first]
+    if not node.parts:
+        return [f"{first} []"]
+    parts = [lines_of(part) for part in node.parts]
+    if all(len(part) == 1 for part in parts):
+        whole = f"{first} ({' ∷ '.join(part[0] for part in parts)} ∷ [])"
+        if len(whole) <= WIDTH:
+            return [whole]
+    return [first] + listed(parts, "(", " ∷ [])")
+
+
+def listed(parts, before, after):
+    """A list of terms on lines, as many of them on a line as there is room for."""
+    made, is_open = [before + parts[0][0]] + parts[0][1:], len(parts[0]) == 1
+    for part in parts[1:]:
+        if is_open and len(part) == 1 and len(made[-1]) + len(part[0]) + 3 <= WIDTH:
+            made[-1] += " ∷ " + part[0]
+            continue
+        made += ["∷ " + part[0]] + part[1:]
+        is_open = len(part) == 1
+    made[-1] += after
+    return made
+
+
+def designs(text):
+    """The designs of a text: each begins with a comment at the left that has its name; the name, the line and the text of each."""
+    found = []
+    for number, line in enumerate(text.split("\n")):
+        if line.startswith("-- "):
+            found.append((line[3:].split(":")[0], number, []))
+        elif found:
+            found[-1][2].append(line)
+    return [(name, number + 1, "\n".join(lines)) for name, number, lines in found]
+
+
+def moved(node, down):
+    node.place = (node.place[0] + down, node.place[1])
+    for part in node.parts:
+        moved(part, down)
+
+
+def design(name, number, text, revision):
+    """The definitions of a design, unit by unit."""
+    trees, made = vhdl_all_places.read(text, revision), []
+    for at, unit in enumerate(trees):
+        moved(unit, number)
+        made += ["", f"abbrev pub {name}_{at} : Forest Form", f"{name}_{at} ="] + ["    " + line for line in lines_of(unit)]
+    units = " ∷ ".join(f"{name}_{at}" for at in range(len(trees)))
+    return made + ["", f"abbrev pub {name} : Forest Form", f"{name} = side_by_side ({units} ∷ [])"]
+
+
+def front(what, path, text, revision):
+    made = [f"-- {what}. Written by tools/syntax-trees from {path}, which is of revision {revision}:", "--"]
+    made += [f"-- {line}".rstrip() for line in text.rstrip("\n").split("\n")]
+    return made + [
+        "use Rattle.std.specs.Prelude.{[], ◌∷◌, codes}",
+        "use Rattle.vd_forest.specs.Forest.{Forest}",
+        "use Rattle.vd_forms.specs.declared.form.Form.{Form}",
+        "use Rattle.vd_forms.specs.declared.form.Form.TheVariants as form",
+        "use Rattle.vd_naming_facts.specs.Trees.{node, leaf, side_by_side}",
+    ]
+
+
+def several(path, text, revision):
+    """A module with the designs of a text."""
+    body = [line for found in designs(text) for line in design(*found, revision)]
+    return "\n".join(front("The syntax trees of some designs", path, text, revision) + body) + "\n"
+
+
+def single(path, text, revision):
+    """A module with a text that is one design."""
+    return "\n".join(front("The syntax tree of a design", path, text, revision) + design("units", 0, text, revision)) + "\n"
+
+
+# ---- texts whose comments say what is answered
+
+ANSWER = re.compile(r"^-- (\w+): (?:refused (\d+) at (\d+):(\d+)|(accepted))$")
+UNFOLDED = "standard_types standard_operators logic_types logic_operators visible_in selected_in_order is_utf8 chars encode_utf8 digits"
+
+
+def answered(text):
+    """The names of the designs, each with what is answered, as a term."""
+    found = []
+    for line in text.split("\n"):
+        match = ANSWER.match(line)
+        if match:
+            name, rule, down, right, accepted = match.groups()
+            found.append((name, "None" if accepted else f"breaks {rule} {down} {right}"))
+    return found
+
+
+def answers(path, text, module, crate):
+    """The record of what is answered of each design of a text."""
+    found, word = answered(text), module.lower()
+    words = ["◌≡◌"] + (["None"] if any(term == "None" for _, term in found) else [])
+    helpers = ["first_of"] + (["breaks"] if any(term != "None" for _, term in found) else [])
+    made = [
+        f"-- What is answered of the designs of {path}. Written by tools/syntax-trees.",
+        f"use Rattle.std.specs.Prelude.{{{', '.join(words)}}}",
+        f"use Rattle.{crate}.specs.Answering.{{{', '.join(helpers)}}}",
+        f"use Rattle.{crate}.specs.{module} as {word}",
+        "",
+        f"pub record {module}Answers : Type 0 where",
+    ]
+    return "\n".join(made + [f"  pub {name} : first_of {word}.{name} ≡ {term}" for name, term in found]) + "\n"
+
+
+def proofs(path, text, module, crate):
+    """Its fields, computed one by one, since each may take many steps."""
+    found, word = answered(text), module.lower()
+    words = ["◌≡◌"] + (["None"] if any(term == "None" for _, term in found) else [])
+    helpers = ["first_of"] + (["breaks"] if any(term != "None" for _, term in found) else [])
+    made = [
+        f"-- What is answered of the designs of {path}, computed. Written by tools/syntax-trees.",
+        "use Rattle.std.proofs.Common.{refl}",
+        "use Rattle.std.specs.Char.{encode_utf8}",
+        "use Rattle.std.specs.Fmt.{digits}",
+        f"use Rattle.std.specs.Prelude.{{{', '.join(words)}}}",
+        "use Rattle.std.specs.Str.{chars, is_utf8}",
+        "use Rattle.vd_given.specs.Table.{logic_operators, logic_types, standard_operators, standard_types}",
+        "use Rattle.vd_regions.specs.InOrder.{selected_in_order, visible_in}",
+        f"use Rattle.{crate}.specs.Answering.{{{', '.join(helpers)}}}",
+        f"use Rattle.{crate}.specs.{module} as {word}",
+        f"use Rattle.{crate}.specs.{module}Answers.{{{module}Answers}}",
+    ]
+    for name, term in found:
+        made += ["", f"{name}_answered : first_of {word}.{name} ≡ {term}", f"unfolding {UNFOLDED}", f"{name}_answered = refl"]
+    made += ["", f"pub {word}_answered : {module}Answers", f"{word}_answered = record {{"]
+    return "\n".join(made + [f"  {name} = {name}_answered;" for name, _ in found] + ["}"]) + "\n"
