@@ -196,7 +196,7 @@ abbrev pub package_ends : Ended → Outcome
 package_ends x =
     let o = declares x (with_name (next_number x.inner.design) x.inner.tree) (entering_unit (package_with (declared_in x.inside.region is_generic x.inner.design) x) (closed x.inside.region x.inner.design)) in
     record o {
-      design = with_span (next_number x.inner.design) x.inside.header x.inside.region (with_instances_at_end x.outer x.inner.at.word x.inside.region o.design)
+      design = with_span (next_number x.inner.design) x.inside.header x.inside.region (with_instances_at_end x.outer x.inner.at.word x.inside.region o.design);
     }
 
 abbrev pub body_of_package : Option ℕ → Ended → Outcome
