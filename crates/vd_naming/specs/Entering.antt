@@ -1,7 +1,6 @@
 -- Declarations as they are entered: at their ends. (IEEE 1076, declarations; scope of declarations)
 use Rattle.std.specs.Prelude.{ℕ, suc, ◌==◌, Bool, true, false, ◌&&◌, List, [], ◌∷◌, ◌++◌, length, Option, Some, None, if◌then◌else◌}
 use Rattle.std.specs.List.{list_any}
-use lib.ListN.{set as slice_set_at}
 use Rattle.vd_bytes.specs.declared.answers.Refused.{Refused}
 use Rattle.vd_bytes.specs.declared.places.Place.{Place}
 use Rattle.vd_declarations.specs.declared.classes.Class.{Class}
@@ -13,7 +12,7 @@ use Rattle.vd_forms.specs.declared.form.Form.{Form}
 use Rattle.vd_forms.specs.declared.form.Form.TheVariants as form
 use Rattle.vd_given.specs.Entries.{with_entry}
 use Rattle.vd_regions.specs.Homographs.{homograph}
-use Rattle.vd_regions.specs.Scopes.{Scopes, Clause, region_at}
+use Rattle.vd_regions.specs.Scopes.{Scopes}
 use Rattle.vd_regions.specs.declared.entries.Entered.{Entered}
 use Rattle.vd_resolved.specs.declared.node.Resolved.{Resolved}
 use Rattle.vd_ways.specs.Ways.{symbol_name}
@@ -127,10 +126,6 @@ is_record_element _ = false
 abbrev pub with_part : Scopes → ℕ → Option ℕ → Scopes
 with_part s outer continues =
     record s { regions = s.regions ++ record { outer = outer; continues = continues; closed = false; uses = [] } ∷ [] }
-
-abbrev pub with_clause : Scopes → ℕ → Clause → Scopes
-with_clause s region clause =
-    record s { regions = slice_set_at s.regions region (record (region_at s region) { uses = (region_at s region).uses ++ clause ∷ [] }) }
 
 -- ---- spans
 

@@ -12,7 +12,7 @@ use Rattle.vd_forest.specs.Forest.{Forest, nothing, more, parts_of, next_of, tex
 use Rattle.vd_forms.specs.declared.form.Form.{Form}
 use Rattle.vd_forms.specs.declared.form.Form.TheVariants as form
 use Rattle.vd_given.specs.declared.numbers.TheConstants.{WORK, STD, IEEE, REGION_OF_LIBRARIES, REGION_OF_WORK}
-use Rattle.vd_regions.specs.Scopes.{Scopes, Clause, region_at, declaration_at}
+use Rattle.vd_regions.specs.Scopes.{region_at, declaration_at, with_clause, with_clauses}
 use Rattle.vd_resolved.specs.declared.node.Resolved.{Resolved}
 use Rattle.vd_sights.specs.Kinds.{kind_of}
 use Rattle.vd_sights.specs.Sights.{Sight}
@@ -22,7 +22,7 @@ use Rattle.vd_naming.specs.Refusals.{lesser, broken, broken_if}
 use Rattle.vd_naming.specs.Expressions.{resolved, sight, gives}
 use Rattle.vd_naming.specs.Selected.{Meant, Breaks}
 use Rattle.vd_naming.specs.Paths.{one_that, path_meant, path_outside, prefix_pieces, named_path, refused_path, rule_of, is_package, is_context, is_entity}
-use Rattle.vd_naming.specs.Entering.{declaration_of, Entering, entering, entering_as, then_entering, nothing_entering, next_number, with_scopes, with_clause, declared_in, is_generic, is_port, with_span, with_body}
+use Rattle.vd_naming.specs.Entering.{declaration_of, Entering, entering, entering_as, then_entering, nothing_entering, next_number, with_scopes, declared_in, is_generic, is_port, with_span, with_body}
 use Rattle.vd_naming.specs.Endings.{Ended, finished, word_of, declares, closed}
 
 -- ---- units of `work` by their names
@@ -286,10 +286,6 @@ abbrev pub entering_libraries : ℕ → List ℕ → Design → Entering
 entering_libraries region [] d = nothing_entering d
 entering_libraries region (k ∷ ks) d =
     then_entering (record { design = (entering region (declaration_at d.scopes k) d).design; first = None }) (entering_libraries region ks)
-
-abbrev pub with_clauses : ℕ → List Clause → Scopes → Scopes
-with_clauses region [] s = s
-with_clauses region (c ∷ cs) s = with_clauses region cs (with_clause s region c)
 
 abbrev pub clauses_again : ℕ → Option ℕ → Design → Design
 clauses_again region None d = d

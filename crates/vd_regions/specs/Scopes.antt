@@ -3,6 +3,7 @@
 use Rattle.std.specs.Prelude.{ℕ, zero, suc, ◌==◌, ◌&&◌, ◌++◌, Bool, false, List, [], ◌∷◌, Option, None, if◌then◌else◌, slice_index_or, option_to_list}
 use Rattle.std.specs.Option.{unwrap_or}
 use Rattle.std.specs.Str.{bytes_eq}
+use lib.ListN.{set as slice_set_at}
 use Rattle.vd_bytes.specs.declared.places.Place.{Place}
 use Rattle.vd_declarations.specs.declared.declarations.Declaration.{Declaration}
 use Rattle.vd_declarations.specs.declared.classes.Class.TheVariants as class
@@ -71,3 +72,13 @@ chain_of (suc n) s region = region ∷ (continued s region ++ (if region == 0 th
 -- libraries
 abbrev pub chain : Scopes → ℕ → List ℕ
 chain s region = chain_of (suc region) s region
+
+-- ---- regions that get use clauses
+
+abbrev pub with_clause : Scopes → ℕ → Clause → Scopes
+with_clause s region clause =
+    record s { regions = slice_set_at s.regions region (record (region_at s region) { uses = (region_at s region).uses ++ clause ∷ [] }) }
+
+abbrev pub with_clauses : ℕ → List Clause → Scopes → Scopes
+with_clauses region [] s = s
+with_clauses region (c ∷ cs) s = with_clauses region cs (with_clause s region c)

@@ -106,7 +106,7 @@ impl Regions {
     }
 
     /// The region round another.
-    fn outer(&self, region: u32) -> u32
+    pub(crate) fn outer(&self, region: u32) -> u32
         ensures { result ≡ (region_at self.now region).outer }
     {
         match self.spaces.get(region as usize) {
@@ -280,7 +280,7 @@ impl Regions {
     }
 
     /// The use clauses of a region.
-    fn uses_of(&self, region: u32) -> &[UseClause]
+    pub(crate) fn uses_of(&self, region: u32) -> &[UseClause]
         ensures { clauses_of result.now ≡ (region_at self.now region).uses }
     {
         match self.spaces.get(region as usize) {

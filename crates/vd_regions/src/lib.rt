@@ -1,6 +1,7 @@
 //! Declarative regions and what is visible in them. (IEEE 1076, scope and visibility)
 #![tactic(auto)]
 
+mod adding;
 mod catalog;
 mod clauses;
 pub mod entries;

@@ -116,7 +116,7 @@ impl Regions {
             × (self.new ≡ record self.old { regions = self.old.regions ++ record { outer = outer; continues = None; closed = false; uses = [] } ∷ [] })) }
         ensures unchanged { OnErr result (self.new ≡ self.old) }
     {
-        self.add_region(outer, None)
+        self.add_region(outer, None, false)
     }
 
     /// A new region inside another, which continues a region: that of an architecture body or a package body, which continues the one of
@@ -132,24 +132,25 @@ impl Regions {
             × (self.new ≡ record self.old { regions = self.old.regions ++ record { outer = outer; continues = Some declaration; closed = false; uses = [] } ∷ [] })) }
         ensures unchanged { OnErr result (self.new ≡ self.old) }
     {
-        self.add_region(outer, Some(declaration.number()))
+        self.add_region(outer, Some(declaration.number()), false)
     }
 
     // A new region.
-    fn add_region(
+    pub(crate) fn add_region(
         &mut self,
         outer: RegionId,
         continues: Option<u32>,
+        closed: bool,
     ) -> Result<RegionId, AllocError>
         ensures nested { IfOk result (λ region. (region ≡ length self.old.regions)
-            × (self.new ≡ record self.old { regions = self.old.regions ++ record { outer = outer; continues = continues; closed = false; uses = [] } ∷ [] })) }
+            × (self.new ≡ record self.old { regions = self.old.regions ++ record { outer = outer; continues = continues; closed = closed; uses = [] } ∷ [] })) }
         ensures unchanged { OnErr result (self.new ≡ self.old) }
     {
         let region = narrow(self.spaces.len())?;
         self.spaces.push(Space {
             outer: outer.number(),
             continues,
-            closed: false,
+            closed,
             uses: UseClauses::new(self.alloc),
         })?;
         Ok(RegionId::of(region))
