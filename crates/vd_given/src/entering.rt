@@ -1,6 +1,7 @@
-//! Entering what no file declares.
+//! Entering what no file declares. A declaration is refused where it may not stand beside those that stand there before. Operators are
+//! entered unchecked too, for whoever goes on behind a broken rule.
 
-ghost use Rattle.std.specs.Prelude.{◌≡◌, ℕ, ◌<◌, ◌∷◌, [], OnOk, IfOk, Err, Some, None, length, map};
+ghost use Rattle.std.specs.Prelude.{◌≡◌, ℕ, ◌<◌, ◌∷◌, [], OnOk, IfOk, Err, Some, None, true, length, map};
 ghost use Rattle.vd_regions.specs.Scopes.{Scopes, declaration_at};
 ghost use Rattle.vd_regions.specs.Homographs.{homograph};
 ghost use Rattle.vd_given.specs.Entries.{declared, unit, with_entry, with_values};
@@ -136,6 +137,28 @@ pub(crate) fn enter_values(
     Ok(())
 }
 
+/// Puts a declaration into a region. Where it is checked, it is refused beside a homograph, and otherwise it goes in whatever stands
+/// there.
+fn put(
+    regions: &mut Regions,
+    region: RegionId,
+    name: &str,
+    declared: Declaration,
+    checked: bool,
+) -> Result<DeclId, EnterEnd>
+    requires own_name { name.now ≡ declared.name }
+    ensures entered { IfOk result (λ id. (id ≡ length regions.old.entered) × (regions.new ≡ with_entry regions.old region declared)) }
+    ensures free { OnOk result (checked ≡ true → homograph regions.old region declared ≡ None) }
+    ensures taken { (id : ℕ) → result ≡ Err (EnterEnd.Homograph id) → homograph regions.old region declared ≡ Some id }
+    ensures only_checked { (id : ℕ) → result ≡ Err (EnterEnd.Homograph id) → checked ≡ true }
+{
+    if checked {
+        return regions.enter(region, name, declared);
+    }
+    let id = regions.add(region, declared)?;
+    Ok(id)
+}
+
 /// Enters an operand.
 fn enter_operand(
     alloc: Global,
@@ -143,14 +166,17 @@ fn enter_operand(
     inside: RegionId,
     name: &str,
     own: u32,
+    checked: bool,
 ) -> Result<DeclId, EnterEnd>
     ensures entered { IfOk result (λ id. (id ≡ length regions.old.entered)
         × (regions.new ≡ with_entry regions.old inside (declared class.Parameter name.now (Some own) []))) }
-    ensures free { OnOk result (homograph regions.old inside (declared class.Parameter name.now (Some own) []) ≡ None) }
+    ensures free { OnOk result (checked ≡ true → homograph regions.old inside (declared class.Parameter name.now (Some own) []) ≡ None) }
     ensures taken { (id : ℕ) → result ≡ Err (EnterEnd.Homograph id) → homograph regions.old inside (declared class.Parameter name.now (Some own) []) ≡ Some id }
+    ensures only_checked { (id : ℕ) → result ≡ Err (EnterEnd.Homograph id) → checked ≡ true }
 {
     let mark = Some(TypeId::of(own));
-    enter_plain(alloc, regions, inside, Class::Parameter, name, mark)
+    let declared = declaration(alloc, Class::Parameter, name, mark, Vec::new(alloc))?;
+    put(regions, inside, name, declared, checked)
 }
 
 /// Enters the operands `l` and `r` of a type, in a region of their own.
@@ -159,15 +185,16 @@ fn enter_pair(
     regions: &mut Regions,
     region: RegionId,
     own: u32,
+    checked: bool,
 ) -> Result<Pair, EnterEnd>
-    requires { region < length regions.old.regions }
     ensures entered { IfOk result (λ pair. (pair ≡ pair_of regions.old region own) × (regions.new ≡ with_pair regions.old region own)) }
-    ensures free { OnOk result (clash_of_pair regions.old region own ≡ None) }
+    ensures free { OnOk result (checked ≡ true → clash_of_pair regions.old region own ≡ None) }
     ensures taken { (id : ℕ) → result ≡ Err (EnterEnd.Homograph id) → clash_of_pair regions.old region own ≡ Some id }
+    ensures only_checked { (id : ℕ) → result ≡ Err (EnterEnd.Homograph id) → checked ≡ true }
 {
-    let inside = regions.nest(region)?;
-    let left = enter_operand(alloc, regions, inside, "l", own)?;
-    let right = enter_operand(alloc, regions, inside, "r", own)?;
+    let inside = regions.add_like(region, None, false)?;
+    let left = enter_operand(alloc, regions, inside, "l", own, checked)?;
+    let right = enter_operand(alloc, regions, inside, "r", own, checked)?;
     Ok(Pair {
         left: left.number(),
         right: right.number(),
@@ -181,14 +208,15 @@ fn enter_pair_of(
     region: RegionId,
     element: Option<u32>,
     other: Pair,
+    checked: bool,
 ) -> Result<Pair, EnterEnd>
-    requires { region < length regions.old.regions }
     ensures entered { IfOk result (λ pair. (pair ≡ pair_or regions.old region element other) × (regions.new ≡ with_pair_of regions.old region element)) }
-    ensures free { OnOk result (clash_of_pair_of regions.old region element ≡ None) }
+    ensures free { OnOk result (checked ≡ true → clash_of_pair_of regions.old region element ≡ None) }
     ensures taken { (id : ℕ) → result ≡ Err (EnterEnd.Homograph id) → clash_of_pair_of regions.old region element ≡ Some id }
+    ensures only_checked { (id : ℕ) → result ≡ Err (EnterEnd.Homograph id) → checked ≡ true }
 {
     match element {
-        Some(element) => enter_pair(alloc, regions, region, element),
+        Some(element) => enter_pair(alloc, regions, region, element, checked),
         None => Ok(other),
     }
 }
@@ -200,15 +228,16 @@ fn enter_operands(
     region: RegionId,
     own: u32,
     element: Option<u32>,
+    checked: bool,
 ) -> Result<Operands, EnterEnd>
-    requires { region < length regions.old.regions }
     ensures entered { IfOk result (λ operands. (operands ≡ operands_of regions.old region own element) × (regions.new ≡ with_operands regions.old region own element)) }
-    ensures free { OnOk result (clash_of_operands regions.old region own element ≡ None) }
+    ensures free { OnOk result (checked ≡ true → clash_of_operands regions.old region own element ≡ None) }
     ensures taken { (id : ℕ) → result ≡ Err (EnterEnd.Homograph id) → clash_of_operands regions.old region own element ≡ Some id }
+    ensures only_checked { (id : ℕ) → result ≡ Err (EnterEnd.Homograph id) → checked ≡ true }
 {
-    let pair = enter_pair(alloc, regions, region, own)?;
-    let elements = enter_pair_of(alloc, regions, region, element, pair)?;
-    let integers = enter_pair(alloc, regions, region, INTEGER)?;
+    let pair = enter_pair(alloc, regions, region, own, checked)?;
+    let elements = enter_pair_of(alloc, regions, region, element, pair, checked)?;
+    let integers = enter_pair(alloc, regions, region, INTEGER, checked)?;
     Ok(Operands {
         own_type: own,
         element_type: element.unwrap_or(own),
@@ -264,15 +293,17 @@ fn enter_operator(
     class: &Class,
     operands: &Operands,
     operator: &Operator,
+    checked: bool,
 ) -> Result<DeclId, EnterEnd>
     ensures entered { OnOk result (regions.new ≡ with_entry regions.old region (operator_of class.now operands.now (seen_operator operator.now))) }
-    ensures free { OnOk result (homograph regions.old region (operator_of class.now operands.now (seen_operator operator.now)) ≡ None) }
+    ensures free { OnOk result (checked ≡ true → homograph regions.old region (operator_of class.now operands.now (seen_operator operator.now)) ≡ None) }
     ensures taken { (id : ℕ) → result ≡ Err (EnterEnd.Homograph id) → homograph regions.old region (operator_of class.now operands.now (seen_operator operator.now)) ≡ Some id }
+    ensures only_checked { (id : ℕ) → result ≡ Err (EnterEnd.Homograph id) → checked ≡ true }
 {
     let ids = parameters(alloc, operands, operator)?;
     let mark = Some(TypeId::of(result_type(operands, operator.result)));
     let declared = declaration(alloc, *class, operator.name, mark, ids)?;
-    regions.enter(region, operator.name, declared)
+    put(regions, region, operator.name, declared, checked)
 }
 
 /// Enters some operators.
@@ -283,13 +314,15 @@ fn enter_group(
     class: &Class,
     operands: &Operands,
     group: &[Operator],
+    checked: bool,
 ) -> Result<(), EnterEnd>
     ensures entered { OnOk result (regions.new ≡ with_group regions.old region class.now operands.now (map seen_operator group.now)) }
-    ensures free { OnOk result (clash_of_group regions.old region class.now operands.now (map seen_operator group.now) ≡ None) }
+    ensures free { OnOk result (checked ≡ true → clash_of_group regions.old region class.now operands.now (map seen_operator group.now) ≡ None) }
     ensures taken { (id : ℕ) → result ≡ Err (EnterEnd.Homograph id) → clash_of_group regions.old region class.now operands.now (map seen_operator group.now) ≡ Some id }
+    ensures only_checked { (id : ℕ) → result ≡ Err (EnterEnd.Homograph id) → checked ≡ true }
 {
     for operator in group {
-        enter_operator(alloc, regions, region, class, operands, operator)?;
+        enter_operator(alloc, regions, region, class, operands, operator, checked)?;
     }
     Ok(())
 }
@@ -302,14 +335,16 @@ fn enter_groups(
     class: &Class,
     operands: &Operands,
     groups: &[Group],
+    checked: bool,
 ) -> Result<(), EnterEnd>
     ensures entered { OnOk result (regions.new ≡ with_groups regions.old region class.now operands.now groups.now) }
-    ensures free { OnOk result (clash_of_groups regions.old region class.now operands.now groups.now ≡ None) }
+    ensures free { OnOk result (checked ≡ true → clash_of_groups regions.old region class.now operands.now groups.now ≡ None) }
     ensures taken { (id : ℕ) → result ≡ Err (EnterEnd.Homograph id) → clash_of_groups regions.old region class.now operands.now groups.now ≡ Some id }
+    ensures only_checked { (id : ℕ) → result ≡ Err (EnterEnd.Homograph id) → checked ≡ true }
 {
     for group in groups {
         let operators = operators_in(*group);
-        enter_group(alloc, regions, region, class, operands, operators)?;
+        enter_group(alloc, regions, region, class, operands, operators, checked)?;
     }
     Ok(())
 }
@@ -323,14 +358,15 @@ pub(crate) fn enter_operators(
     own: u32,
     element: Option<u32>,
     groups: &[Group],
+    checked: bool,
 ) -> Result<(), EnterEnd>
-    requires { region < length regions.old.regions }
     ensures entered { OnOk result (regions.new ≡ with_operators regions.old region class.now own element groups.now) }
-    ensures free { OnOk result (clash_of_operators regions.old region class.now own element groups.now ≡ None) }
+    ensures free { OnOk result (checked ≡ true → clash_of_operators regions.old region class.now own element groups.now ≡ None) }
     ensures taken { (id : ℕ) → result ≡ Err (EnterEnd.Homograph id) → clash_of_operators regions.old region class.now own element groups.now ≡ Some id }
+    ensures only_checked { (id : ℕ) → result ≡ Err (EnterEnd.Homograph id) → checked ≡ true }
 {
-    let operands = enter_operands(alloc, regions, region, own, element)?;
-    enter_groups(alloc, regions, region, class, &operands, groups)
+    let operands = enter_operands(alloc, regions, region, own, element, checked)?;
+    enter_groups(alloc, regions, region, class, &operands, groups, checked)
 }
 
 /// Whether a type is an enumeration type or INTEGER.
@@ -340,19 +376,57 @@ fn is_discrete(class: Class) -> bool
     matches!(class, Class::EnumerationType | Class::IntegerType)
 }
 
+/// The class of a declaration. A number that no declaration has stands for a label, as the definitions have it.
+fn class_at(regions: &Regions, id: DeclId) -> Class
+    ensures { result ≡ (declaration_at regions.now id).class }
+{
+    if regions.is_declaration(id) {
+        regions.declaration(id).class
+    } else {
+        Class::Label
+    }
+}
+
 /// The operators of an array type whose elements have this type.
 fn groups_of_arrays(regions: &Regions, element: TypeId) -> &'static [Group]
-    requires { element < length regions.now.entered }
     ensures { result.now ≡ groups_of_arrays regions.now element }
 {
     let number = element.number();
     if number == BIT || number == BOOLEAN {
         OF_LOGIC_ARRAYS
-    } else if is_discrete(regions.declaration(DeclId::of(number)).class) {
+    } else if is_discrete(class_at(regions, DeclId::of(number))) {
         OF_DISCRETE_ARRAYS
     } else {
         OF_OTHER_ARRAYS
     }
+}
+
+/// Enters the operators that a type of a class brings with it.
+fn enter_operators_of(
+    alloc: Global,
+    regions: &mut Regions,
+    region: RegionId,
+    own: u32,
+    class: Class,
+    checked: bool,
+) -> Result<(), EnterEnd>
+    ensures entered { OnOk result (regions.new ≡ with_operators_of regions.old region own class) }
+    ensures free { OnOk result (checked ≡ true → clash_of_operators_of regions.old region own class ≡ None) }
+    ensures taken { (id : ℕ) → result ≡ Err (EnterEnd.Homograph id) → clash_of_operators_of regions.old region own class ≡ Some id }
+    ensures only_checked { (id : ℕ) → result ≡ Err (EnterEnd.Homograph id) → checked ≡ true }
+{
+    let brought = Class::PredefinedOperator;
+    let (element, groups) = match class {
+        Class::EnumerationType => (None, OF_ENUMERATIONS),
+        Class::ArrayType { element, .. } => {
+            (Some(element.number()), groups_of_arrays(regions, element))
+        }
+        Class::RecordType | Class::GenericType => (None, OF_OTHERS),
+        _ => return Ok(()),
+    };
+    enter_operators(
+        alloc, regions, region, &brought, own, element, groups, checked,
+    )
 }
 
 /// Enters the operators that a type of a user brings with it, right behind the type. After an Err some may be entered.
@@ -369,28 +443,23 @@ pub fn declare_operators(
     ensures free { OnOk result (clash_of_operators_of regions.old region own class ≡ None) }
     ensures taken { (id : ℕ) → result ≡ Err (EnterEnd.Homograph id) → clash_of_operators_of regions.old region own class ≡ Some id }
 {
-    let operator = Class::PredefinedOperator;
-    let number = own.number();
-    match class {
-        Class::EnumerationType => {
-            enter_operators(
-                alloc,
-                regions,
-                region,
-                &operator,
-                number,
-                None,
-                OF_ENUMERATIONS,
-            )
-        }
-        Class::ArrayType { element, .. } => {
-            let groups = groups_of_arrays(regions, element);
-            let element = Some(element.number());
-            enter_operators(alloc, regions, region, &operator, number, element, groups)
-        }
-        Class::RecordType | Class::GenericType => {
-            enter_operators(alloc, regions, region, &operator, number, None, OF_OTHERS)
-        }
-        _ => Ok(()),
+    enter_operators_of(alloc, regions, region, own.number(), class, true)
+}
+
+/// Enters the operators that a type brings with it, right behind the type, whatever stands in the region. After an Err some may be
+/// entered.
+pub fn bring_operators(
+    alloc: Global,
+    regions: &mut Regions,
+    region: RegionId,
+    own: TypeId,
+    class: Class,
+) -> Result<(), AllocError>
+    ensures { OnOk result (regions.new ≡ with_operators_of regions.old region own class) }
+{
+    match enter_operators_of(alloc, regions, region, own.number(), class, false) {
+        Ok(()) => Ok(()),
+        Err(EnterEnd::Memory) => Err(AllocError),
+        Err(EnterEnd::Homograph(_)) => unreachable!(),
     }
 }

@@ -10,5 +10,5 @@ mod packages;
 pub mod rows;
 mod tables;
 
-pub use entering::declare_operators;
+pub use entering::{bring_operators, declare_operators};
 pub use packages::given;

@@ -110,7 +110,7 @@ fn enter_line(
         }
         Line::Operators(origin, own, element, groups) => {
             let class = class_of(*origin);
-            enter_operators(alloc, regions, region, &class, *own, *element, groups)
+            enter_operators(alloc, regions, region, &class, *own, *element, groups, true)
         }
         Line::Function(origin, name, parameter, own, result_is) => {
             let class = class_of(*origin);
