@@ -8,7 +8,7 @@ mod making;
 pub mod names;
 pub mod setting;
 pub mod suffixes;
-mod values;
+pub mod values;
 mod wanted;
 
 pub use setting::{ends_in, ways_in};
