@@ -23,31 +23,32 @@ use Rattle.vd_sights.specs.declared.roles.Role.TheVariants as role
 use Rattle.vd_sights.specs.Kinds.{role_of}
 use Rattle.vd_sights.specs.Sights.{Sight, class_of, mark_of, parameters_of}
 use Rattle.vd_ways.specs.Ways.{symbol_name, selection_name}
-use Rattle.vd_naming.specs.Designs.{At, Design, Outcome}
-use Rattle.vd_naming.specs.Refusals.{lesser, broken, broken_if}
+use Rattle.vd_name_states.specs.declared.at.Actual.{Actual}
+use Rattle.vd_name_states.specs.Designs.{At, Design, Outcome, sight, gives}
+use Rattle.vd_name_states.specs.Noting.{has_body}
+use Rattle.vd_name_states.specs.Refusals.{lesser, broken, broken_if}
 use Rattle.vd_naming.specs.Edges.{is_edge_function}
 use Rattle.vd_naming.specs.Pieces.{refused_pieces}
-use Rattle.vd_naming.specs.Expressions.{resolved, unresolved, sight, gives, only_reading, refused_unless_one, mark_readings, mark_declared, type_declared, read_as_mark, where_known, with_mark}
+use Rattle.vd_naming.specs.Expressions.{resolved, unresolved, only_reading, refused_unless_one, mark_readings, mark_declared, type_declared, read_as_mark, where_known, with_mark}
 use Rattle.vd_naming.specs.Selected.{Meant, Means, Breaks, some_or, meant_behind}
 use Rattle.vd_naming.specs.Paths.{one_that, is_some}
-use Rattle.vd_naming.specs.Entering.{has_body}
 use Rattle.vd_naming.specs.Associations.{Element, is_among_numbers}
 
 -- ---- generics and their actuals, as pairs
 
-abbrev pub actual_of : ℕ → List (ℕ × ℕ) → Option ℕ
+abbrev pub actual_of : ℕ → List Actual → Option ℕ
 actual_of g [] = None
-actual_of g (p ∷ ps) = if p.0 == g then Some p.1 else actual_of g ps
+actual_of g (a ∷ others) = if a.generic == g then Some a.actual else actual_of g others
 
-abbrev pub paired : ℕ → Option ℕ → List (ℕ × ℕ)
+abbrev pub paired : ℕ → Option ℕ → List Actual
 paired g None = []
-paired g (Some k) = (g, k) ∷ []
+paired g (Some k) = record { generic = g; actual = k } ∷ []
 
 -- What is known of the generics of an instance: the place, the generics, and the actuals of those that are types.
 pub record Known : Type 0 where
   pub sight : Sight
   pub generics : List ℕ
-  pub types : List (ℕ × ℕ)
+  pub types : List Actual
 
 -- a type in the instance: that of its actual where it is a generic, if that is known
 abbrev pub type_in : Known → ℕ → Option ℕ
@@ -200,9 +201,9 @@ abbrev pub is_generic_function : Class → Bool
 is_generic_function class.GenericFunction = true
 is_generic_function _ = false
 
-abbrev pub type_for : At → Design → Forest Form → Option ℕ → List (ℕ × ℕ)
+abbrev pub type_for : At → Design → Forest Form → Option ℕ → List Actual
 type_for at d tree None = []
 type_for at d tree (Some g) = if is_generic_type (declaration_at d.scopes g).class then paired g (mark_declared (read_as_mark at d tree).tree) else []
 
-abbrev pub types_given : At → Design → List Element → List (ℕ × ℕ)
+abbrev pub types_given : At → Design → List Element → List Actual
 types_given at d es = flat_map (λ e. type_for at d e.actual e.generic) es

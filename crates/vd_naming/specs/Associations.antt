@@ -8,7 +8,7 @@ use Rattle.vd_forms.specs.declared.form.Form.TheVariants as form
 use Rattle.vd_regions.specs.Scopes.{declaration_at}
 use Rattle.vd_sights.specs.Lists.{simple_name, is_name}
 use Rattle.vd_ways.specs.Ways.{symbol_name}
-use Rattle.vd_naming.specs.Designs.{Design}
+use Rattle.vd_name_states.specs.Designs.{Design}
 use Rattle.vd_naming.specs.Paths.{is_some}
 use Rattle.vd_naming.specs.Functions.{first_that}
 use Rattle.vd_naming.specs.Units.{first_of}

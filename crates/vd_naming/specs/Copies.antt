@@ -1,8 +1,7 @@
 -- What an instance declares: what its package or function with generics declares, again, one by one and in order. (IEEE 1076-2019, package and subprogram
 -- instantiation declarations)
 -- So numbers and regions of the copies differ from those of the originals by an offset. As a type, a generic type is the type of its actual.
-use Rattle.std.specs.Prelude.{ℕ, suc, ◌+◌, ◌-◌, ◌==◌, nat_lt, Bool, false, ◌&&◌, ◌||◌, not, List, [], ◌∷◌, ◌++◌, map, take, drop, Option, None, option_map, if◌then◌else◌}
-use Rattle.std.specs.List.{filter}
+use Rattle.std.specs.Prelude.{ℕ, zero, suc, ◌+◌, ◌-◌, ◌==◌, nat_lt, Bool, false, ◌&&◌, ◌||◌, not, List, [], ◌∷◌, ◌++◌, map, take, drop, Option, Some, None, option_map, if◌then◌else◌}
 use Rattle.std.specs.Option.{unwrap_or}
 use Rattle.vd_declarations.specs.declared.classes.Class.{Class}
 use Rattle.vd_declarations.specs.declared.classes.Class.TheVariants as class
@@ -12,8 +11,12 @@ use Rattle.vd_declarations.specs.declared.declarations.Declaration.{Declaration}
 use Rattle.vd_regions.specs.Scopes.{Scopes, Region, declaration_at}
 use Rattle.vd_regions.specs.declared.entries.Entered.{Entered}
 use Rattle.vd_sights.specs.Sights.{Sight}
-use Rattle.vd_naming.specs.Designs.{Span, Formal, Design}
-use Rattle.vd_naming.specs.Entering.{next_number, next_region, span_of}
+use Rattle.vd_name_states.specs.Designs.{Design, note_at, with_note, with_scopes}
+use Rattle.vd_name_states.specs.Noting.{span_at, has_bounds}
+use Rattle.vd_name_states.specs.declared.at.Actual.{Actual}
+use Rattle.vd_name_states.specs.declared.notes.Note.{Note}
+use Rattle.vd_name_states.specs.Members.{next_number, next_region}
+use Rattle.vd_name_states.specs.declared.notes.Span.{Span}
 use Rattle.vd_naming.specs.Functions.{as_in}
 use Rattle.vd_naming.specs.Associations.{is_among_numbers}
 use Rattle.vd_naming.specs.Actuals.{Known, actual_of, type_in}
@@ -21,17 +24,24 @@ use Rattle.vd_naming.specs.Actuals.{Known, actual_of, type_in}
 -- The span of what is instantiated, its declaration, and the region round the instance; the first number and region of the copies; what is known of
 -- the generics, and the actuals of types and functions.
 pub record Copying : Type 0 where
+  pub owner : ℕ
   pub span : Span
   pub generic : Declaration
   pub outer : ℕ
   pub first : ℕ
   pub first_region : ℕ
   pub known : Known
-  pub actuals : List (ℕ × ℕ)
+  pub actuals : List Actual
 
-abbrev pub copying : ℕ → ℕ → Sight → List (ℕ × ℕ) → Design → Copying
+-- it ends where the package or function stands itself; where nothing is known of its span, nothing is copied
+abbrev pub end_of_span : ℕ → Option Span → ℕ
+end_of_span n None = 0
+end_of_span n (Some span) = n
+
+abbrev pub copying : ℕ → ℕ → Sight → List Actual → Design → Copying
 copying n outer s actuals d = record {
-  span = span_of n d.spans;
+  owner = end_of_span n (note_at d n).span;
+  span = span_at d n;
   generic = declaration_at d.scopes n;
   outer = outer;
   first = next_number d;
@@ -42,28 +52,21 @@ copying n outer s actuals d = record {
 
 -- ---- numbers and regions
 
-abbrev pub is_copied : Copying → ℕ → Bool
-is_copied c n = not (nat_lt n c.span.first) && nat_lt n c.span.owner
-
 abbrev pub number_of_copy : Copying → ℕ → ℕ
-number_of_copy c n = as_in c.span.first c.span.owner c.first n
+number_of_copy c n = as_in c.span.first c.owner c.first n
 
 abbrev pub region_of_copy : Copying → ℕ → ℕ
 region_of_copy c r = as_in c.span.first_region c.span.end_region c.first_region r
 
 -- the number behind the copies, and the region behind theirs, in which nothing looks
 abbrev pub number_behind : Copying → ℕ
-number_behind c = c.first + (c.span.owner - c.span.first)
+number_behind c = c.first + (c.owner - c.span.first)
 
 abbrev pub region_behind : Copying → ℕ
 region_behind c = c.first_region + (c.span.end_region - c.span.first_region)
 
 abbrev pub numbers_of_copies : Copying → List ℕ → List ℕ
 numbers_of_copies c ks = map (number_of_copy c) ks
-
--- of those of a list that are copied
-abbrev pub copies_of : Copying → List ℕ → List ℕ
-copies_of c ks = numbers_of_copies c (filter (is_copied c) ks)
 
 -- ---- types, and functions that are actuals themselves
 
@@ -143,35 +146,31 @@ unseen_region c = record { outer = c.outer; continues = None; closed = false; us
 
 -- ---- what else is known of the originals is known of the copies
 
-abbrev pub formal_of_copy : Copying → Formal → Formal
-formal_of_copy c f = record f { number = number_of_copy c f.number }
-
-abbrev pub formals_of_copies : Copying → List Formal → List Formal
-formals_of_copies c fs = map (formal_of_copy c) (filter (λ f. is_copied c f.number) fs)
-
 abbrev pub span_of_copy : Copying → Span → Span
 span_of_copy c x = record {
-  owner = number_of_copy c x.owner;
   first = number_of_copy c x.first;
   first_region = region_of_copy c x.first_region;
   end_region = c.first_region + (x.end_region - c.span.first_region);
 }
 
-abbrev pub spans_of_copies : Copying → List Span → List Span
-spans_of_copies c xs = map (span_of_copy c) (filter (λ x. is_copied c x.owner) xs)
-
-abbrev pub tied_copy : Copying → ℕ × ℕ → ℕ × ℕ
-tied_copy c p = (number_of_copy c p.0, p.1)
-
-abbrev pub tied_copies : Copying → List (ℕ × ℕ) → List (ℕ × ℕ)
-tied_copies c ps = map (tied_copy c) (filter (λ p. is_copied c p.0) ps)
-
 -- the copy of a generic type has bounds where its actual has
-abbrev pub copy_of_first : Copying → ℕ × ℕ → ℕ
-copy_of_first c p = number_of_copy c p.0
+abbrev pub is_bounded_actual : Design → Option ℕ → Bool
+is_bounded_actual d None = false
+is_bounded_actual d (Some k) = has_bounds d k
 
-abbrev pub bounded_generics : Copying → List ℕ → List ℕ
-bounded_generics c bounded = map (copy_of_first c) (filter (λ p. is_among_numbers bounded p.1) c.actuals)
+abbrev pub note_of_copy : Copying → Design → ℕ → Note
+note_of_copy c d n =
+    record (note_at d n) {
+      is_instance = false;
+      is_bounded = (note_at d n).is_bounded || is_bounded_actual d (actual_of n c.actuals);
+      is_loop = false;
+      span = option_map (span_of_copy c) (note_at d n).span;
+    }
+
+-- of so many, from a number on
+abbrev pub with_noted_copies : Copying → ℕ → ℕ → Design → Design
+with_noted_copies c n zero d = d
+with_noted_copies c n (suc left) d = with_noted_copies c (suc n) left (with_note (number_of_copy c n) (note_of_copy c d n) d)
 
 -- ---- a design with the copies
 
@@ -180,16 +179,9 @@ some_of first end xs = take (end - first) (drop first xs)
 
 abbrev pub scopes_with_copies : Copying → Scopes → Scopes
 scopes_with_copies c s = record {
-  entered = s.entered ++ entries_of_copies c c.span.first (some_of c.span.first c.span.owner s.entered);
+  entered = s.entered ++ entries_of_copies c c.span.first (some_of c.span.first c.owner s.entered);
   regions = s.regions ++ (map (copy_of_region c) (some_of c.span.first_region c.span.end_region s.regions) ++ unseen_region c ∷ []);
 }
 
 abbrev pub with_copies : Copying → Design → Design
-with_copies c d = record d {
-  scopes = scopes_with_copies c d.scopes;
-  bodies = copies_of c d.bodies ++ d.bodies;
-  bounded = bounded_generics c d.bounded ++ (copies_of c d.bounded ++ d.bounded);
-  formals = formals_of_copies c d.formals ++ d.formals;
-  spans = spans_of_copies c d.spans ++ d.spans;
-  tied = tied_copies c d.tied ++ d.tied;
-}
+with_copies c d = with_noted_copies c c.span.first (c.owner - c.span.first) (with_scopes d (scopes_with_copies c d.scopes))

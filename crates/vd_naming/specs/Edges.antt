@@ -14,7 +14,7 @@ use Rattle.vd_resolved.specs.declared.node.Resolved.{Resolved}
 use Rattle.vd_sights.specs.declared.roles.Role.{Role}
 use Rattle.vd_sights.specs.declared.roles.Role.TheVariants as role
 use Rattle.vd_sights.specs.Kinds.{role_of}
-use Rattle.vd_naming.specs.Refusals.{broken_if}
+use Rattle.vd_name_states.specs.Refusals.{broken_if}
 
 -- one of the two functions of `ieee.std_logic_1164`
 abbrev pub is_edge_name : List ℕ → Bool

@@ -1,6 +1,5 @@
 -- What a form declares at its end: objects, types, subtypes. (IEEE 1076, declarations; types; subtype declarations)
-use Rattle.std.specs.Prelude.{ℕ, suc, ◌==◌, Bool, true, false, ◌&&◌, ◌||◌, not, List, [], ◌∷◌, ◌++◌, Option, Some, None, if◌then◌else◌}
-use Rattle.std.specs.List.{list_any}
+use Rattle.std.specs.Prelude.{ℕ, suc, Bool, true, false, ◌&&◌, ◌||◌, not, List, [], ◌∷◌, Option, Some, None}
 use Rattle.std.specs.Option.{unwrap_or}
 use Rattle.vd_bytes.specs.declared.answers.Refused.{Refused}
 use Rattle.vd_bytes.specs.declared.places.Place.{Place}
@@ -16,11 +15,15 @@ use Rattle.vd_given.specs.Given.{with_end}
 use Rattle.vd_regions.specs.Scopes.{declaration_at}
 use Rattle.vd_resolved.specs.declared.node.Resolved.{Resolved}
 use Rattle.vd_sights.specs.Types.{is_scalar, element_of}
-use Rattle.vd_naming.specs.Designs.{At, Formal, Design, Outcome}
-use Rattle.vd_naming.specs.Refusals.{lesser, broken_if}
+use Rattle.vd_name_states.specs.Noting.{has_bounds, with_bounds, with_formal}
+use Rattle.vd_name_states.specs.declared.sorts.Sort.TheVariants as sort
+use Rattle.vd_name_states.specs.Designs.{At, Design, Outcome, with_scopes}
+use Rattle.vd_name_states.specs.Entering.{Word, words_of, words_in, numbered, declaration_of, Entering, entering, then_entering, nothing_entering, entering_words}
+use Rattle.vd_name_states.specs.Members.{next_number, declared_in}
+use Rattle.vd_name_states.specs.Refusals.{lesser, broken_if}
+use Rattle.vd_name_states.specs.declared.notes.Formal.{Formal}
 use Rattle.vd_naming.specs.Expressions.{resolved, mark_of}
 use Rattle.vd_naming.specs.Paths.{is_some}
-use Rattle.vd_naming.specs.Entering.{Word, words_of, words_in, numbered, declaration_of, Entering, entering, then_entering, nothing_entering, entering_words, next_number, with_scopes, declared_in, is_record_element}
 
 -- A node whose parts are resolved: what is known in front of it, inside it before its parts, and what these come to.
 pub record Ended : Type 0 where
@@ -86,26 +89,25 @@ needs_value form.ViewMode default = true
 needs_value form.In default = is_form default form.Absent
 needs_value _ default = false
 
-abbrev pub formal_of : Form → Forest Form → ℕ → Formal
-formal_of f parts k =
-    record { number = k; mode = mode_of f (form_at 2 parts); is_needed = needs_value (mode_of f (form_at 2 parts)) (form_at 4 parts) }
+abbrev pub formal_of : Form → Forest Form → Formal
+formal_of f parts = record { mode = mode_of f (form_at 2 parts); is_needed = needs_value (mode_of f (form_at 2 parts)) (form_at 4 parts) }
 
 -- as many as there are names, from a number on
-abbrev pub formals_from : Form → Forest Form → ℕ → List Word → List Formal
-formals_from f parts k [] = []
-formals_from f parts k (w ∷ ws) = formal_of f parts k ∷ formals_from f parts (suc k) ws
-
-abbrev pub with_formals : List Formal → Entering → Entering
-with_formals fs e = record e { design = record e.design { formals = fs ++ e.design.formals } }
+abbrev pub with_formals : Formal → ℕ → List Word → Design → Design
+with_formals f k [] d = d
+with_formals f k (w ∷ ws) d = with_formals f (suc k) ws (with_formal k f d)
 
 -- ports and generic constants are formals
-abbrev pub formals_by : Class → Form → Forest Form → ℕ → List Word → List Formal
-formals_by class.Port f parts k ws = formals_from f parts k ws
-formals_by class.GenericConstant f parts k ws = formals_from f parts k ws
-formals_by _ f parts k ws = []
+abbrev pub with_formals_of : Class → Form → Forest Form → ℕ → List Word → Design → Design
+with_formals_of class.Port f parts k ws d = with_formals (formal_of f parts) k ws d
+with_formals_of class.GenericConstant f parts k ws d = with_formals (formal_of f parts) k ws d
+with_formals_of _ f parts k ws d = d
+
+abbrev pub noted : Entering → (Design → Design) → Entering
+noted e note = record e { design = note e.design }
 
 abbrev pub entering_objects : ℕ → Class → Form → Forest Form → Option ℕ → List Word → Design → Entering
-entering_objects region c f parts mark ws d = with_formals (formals_by c f parts (next_number d) ws) (entering_words region c mark ws d)
+entering_objects region c f parts mark ws d = noted (entering_words region c mark ws d) (with_formals_of c f parts (next_number d) ws)
 
 abbrev pub objects_end : Class → ℕ → Ended → Outcome
 objects_end c names x =
@@ -124,7 +126,7 @@ ports_end x = entered x None x.inner.tree (entering_ports x.outer.region x.parts
 
 abbrev pub is_bounded : Design → Option ℕ → Bool
 is_bounded d None = true
-is_bounded d (Some k) = list_any (λ j. j == k) d.bounded
+is_bounded d (Some k) = has_bounds d k
 
 abbrev pub can_be_narrower : Form → Design → Class → Option ℕ → Bool
 can_be_narrower form.IndexConstraint d c k = is_some (element_of c) && not (is_bounded d k)
@@ -161,9 +163,6 @@ entering_enumeration region w literals d =
 abbrev pub or_zero : Option ℕ → ℕ
 or_zero k = unwrap_or k 0
 
-abbrev pub with_bounds : Bool → ℕ → Design → Design
-with_bounds b k d = if b then record d { bounded = k ∷ d.bounded } else d
-
 abbrev pub has_range : Forest Form → Bool
 has_range nothing = false
 has_range (more form.UnconstrainedIndex text place parts next) = false
@@ -180,7 +179,7 @@ entering_array x syntax definition d =
 -- a record type, whose elements stand in its region
 abbrev pub record_of : Ended → Design → Declaration
 record_of x d =
-    record (declaration_of class.RecordType (word_of x) None) { parameters = declared_in x.inside.region is_record_element d; inside = Some x.inside.region }
+    record (declaration_of class.RecordType (word_of x) None) { parameters = declared_in x.inside.region sort.Element d; inside = Some x.inside.region }
 
 abbrev pub closed : ℕ → Design → Design
 closed region d = with_scopes d (with_end d.scopes region)

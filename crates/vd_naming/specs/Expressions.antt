@@ -13,15 +13,16 @@ use Rattle.vd_rewriting.specs.Forms.{with_forms}
 use Rattle.vd_states.specs.declared.states.State.{State}
 use Rattle.vd_states.specs.declared.states.State.TheVariants as state
 use Rattle.vd_states.specs.declared.states.Want.TheVariants as want
-use Rattle.vd_sights.specs.Sights.{Sight, Standpoint, sight_from, class_of}
+use Rattle.vd_sights.specs.Sights.{Sight, class_of}
 use Rattle.vd_sights.specs.Types.{all_types, is_discrete, index_of, element_of, type_meant}
 use Rattle.vd_overloads.specs.Environment.{rules_at, scene_at}
 use Rattle.vd_overloads.specs.Interpretations.{alone, first_place, interpretations, refusal}
 use Rattle.vd_overloads.specs.declared.wanted.Wanted.{Wanted}
 use Rattle.vd_overloads.specs.declared.wanted.Wanted.TheVariants as wanted
-use Rattle.vd_naming.specs.Designs.{At, Design, Outcome}
-use Rattle.vd_naming.specs.Refusals.{lesser, broken}
-use Rattle.vd_naming.specs.Rows as row
+use Rattle.vd_name_states.specs.declared.steps.Want as step
+use Rattle.vd_name_states.specs.declared.steps.Want.TheVariants as places
+use Rattle.vd_name_states.specs.Designs.{At, Design, Outcome, standpoint, sight, gives}
+use Rattle.vd_name_states.specs.Refusals.{lesser, broken}
 use Rattle.vd_naming.specs.Pieces.{refused_pieces}
 use Rattle.vd_naming.specs.Edges.{edge_of_no_signal}
 
@@ -33,12 +34,6 @@ resolved f declaration mark = record { form = f; declaration = declaration; mark
 -- a tree in which nothing is named
 abbrev pub unresolved : Forest Form → Forest Resolved
 unresolved tree = with_forms (λ f. resolved f None None) tree
-
-abbrev pub standpoint : At → Design → Standpoint
-standpoint at d = record { revision = at.revision; scopes = d.scopes; region = at.region }
-
-abbrev pub sight : At → Design → Sight
-sight at d = sight_from (standpoint at d)
 
 -- ---- what a tree comes to of which some readings are given: the only one, or nothing is named in it and it is refused
 
@@ -55,10 +50,6 @@ refused_unless_one refused (reading ∷ other ∷ readings) = refused
 abbrev pub mark_of : Forest Resolved → Option ℕ
 mark_of nothing = None
 mark_of (more node text place parts next) = node.mark
-
--- the outcome of one tree
-abbrev pub gives : At → Design → Forest Resolved → Option Refused → Outcome
-gives at d tree first = record { tree = tree; at = at; design = d; first = first }
 
 -- ---- an expression of which something is wanted
 
@@ -174,15 +165,15 @@ abbrev pub index_type : Sight → Option ℕ → Option ℕ
 index_type s None = None
 index_type s (Some t) = index_of (class_of s t)
 
-abbrev pub wanted_at : row.Want → At → Design → Option Wanted
-wanted_at row.AtHand at d = with_mark wanted.OfType at.mark
-wanted_at (row.Given t) at d = Some (wanted.OfType t)
-wanted_at row.Condition at d = Some wanted.Condition
-wanted_at row.Free at d = Some wanted.Free
-wanted_at row.Choice at d = with_mark wanted.Choice at.selector
-wanted_at row.Range at d = with_mark wanted.Range at.mark
-wanted_at row.Index at d = with_mark wanted.DiscreteRange (index_type (sight at d) at.mark)
-wanted_at row.AnyRange at d = Some wanted.AnyDiscreteRange
+abbrev pub wanted_at : step.Want → At → Design → Option Wanted
+wanted_at places.AtHand at d = with_mark wanted.OfType at.mark
+wanted_at (places.Given t) at d = Some (wanted.OfType t)
+wanted_at places.Condition at d = Some wanted.Condition
+wanted_at places.Free at d = Some wanted.Free
+wanted_at places.Choice at d = with_mark wanted.Choice at.selector
+wanted_at places.Range at d = with_mark wanted.Range at.mark
+wanted_at places.Index at d = with_mark wanted.DiscreteRange (index_type (sight at d) at.mark)
+wanted_at places.AnyRange at d = Some wanted.AnyDiscreteRange
 
 -- a part that may be missing
 abbrev pub is_absent : Forest Form → Bool
@@ -190,7 +181,7 @@ is_absent nothing = true
 is_absent (more form.Absent text place parts next) = true
 is_absent (more _ text place parts next) = false
 
-abbrev pub expression : row.Want → At → Design → Forest Form → Outcome
+abbrev pub expression : step.Want → At → Design → Forest Form → Outcome
 expression w at d tree = if is_absent tree then gives at d (unresolved tree) None else where_known (wanted_at w at d) at d tree
 
 -- ---- targets and selectors: expressions of any type

@@ -2,7 +2,7 @@
 -- subprogram declarations)
 -- A header stands in a region of its own. A body has the number of its declaration, and what its header declares stands for what the header of the declaration
 -- declares, one by one.
-use Rattle.std.specs.Prelude.{ℕ, ◌+◌, ◌-◌, ◌==◌, nat_lt, Bool, true, false, ◌&&◌, ◌||◌, not, List, [], ◌∷◌, map, length, Option, Some, None, option_map, if◌then◌else◌}
+use Rattle.std.specs.Prelude.{ℕ, ◌+◌, ◌-◌, ◌==◌, nat_lt, Bool, true, false, ◌&&◌, ◌||◌, not, List, [], ◌∷◌, ◌++◌, map, length, Option, Some, None, option_map, if◌then◌else◌}
 use Rattle.std.specs.Option.{option_or}
 use Rattle.std.specs.Str.{bytes_eq}
 use Rattle.vd_declarations.specs.declared.classes.Class.{Class}
@@ -13,10 +13,14 @@ use Rattle.vd_forms.specs.declared.form.Form.TheVariants as form
 use Rattle.vd_regions.specs.Homographs.{same_type, same_types, parameter_types}
 use Rattle.vd_regions.specs.Scopes.{region_at, entered_at, declaration_at, continued}
 use Rattle.vd_resolved.specs.declared.node.Resolved.{Resolved}
-use Rattle.vd_naming.specs.Designs.{Taken, At, Design, Outcome}
-use Rattle.vd_naming.specs.Refusals.{lesser}
-use Rattle.vd_naming.specs.Entering.{Word, declaration_of, Entering, entering, next_number, declared_in, is_generic, is_parameter, span_of, with_span, with_body, has_body}
-use Rattle.vd_naming.specs.Endings.{Ended, word_of, declares, finished, with_operators, with_formals, form_at, is_form}
+use Rattle.vd_name_states.specs.declared.sorts.Sort.TheVariants as sort
+use Rattle.vd_name_states.specs.Designs.{At, Design, Outcome}
+use Rattle.vd_name_states.specs.Entering.{Word, declaration_of, Entering, entering}
+use Rattle.vd_name_states.specs.Members.{next_number, declared_in}
+use Rattle.vd_name_states.specs.Noting.{span_at, with_span, with_body, has_body, tied_to, with_formal}
+use Rattle.vd_name_states.specs.Refusals.{lesser}
+use Rattle.vd_name_states.specs.declared.notes.Taken.{Taken}
+use Rattle.vd_naming.specs.Endings.{Ended, word_of, declares, finished, with_operators, noted, form_at, is_form}
 
 -- ---- headers
 
@@ -27,10 +31,10 @@ function_class (k ∷ ks) = class.UninstantiatedFunction
 
 -- what stands in a header
 abbrev pub header_generics : ℕ → Design → List ℕ
-header_generics region d = declared_in region is_generic d
+header_generics region d = declared_in region sort.Generic d
 
 abbrev pub header_parameters : ℕ → Design → List ℕ
-header_parameters region d = declared_in region is_parameter d
+header_parameters region d = declared_in region sort.Parameter d
 
 abbrev pub function_of : Class → Word → Option ℕ → ℕ → Design → Declaration
 function_of c w result region d =
@@ -65,10 +69,10 @@ is_written_function _ = false
 abbrev pub is_declared_as : At → Design → Declaration → ℕ → Bool
 is_declared_as at d body k =
     bytes_eq (declaration_at d.scopes k).name body.name
-    && (not (has_body d k) && same_header d at.header (next_number d) (span_of k d.spans).first body (declaration_at d.scopes k))
+    && (not (has_body d k) && same_header d at.header (next_number d) (span_at d k).first body (declaration_at d.scopes k))
 
 abbrev pub functions_round : Design → ℕ → List ℕ
-functions_round d region = declared_in region is_written_function d
+functions_round d region = declared_in region sort.WrittenFunction d
 
 abbrev pub first_that : (ℕ → Bool) → List ℕ → Option ℕ
 first_that test [] = None
@@ -89,13 +93,13 @@ declaration_of_body at d body = first_in_regions at d body (round_of d at.region
 
 -- where there is a declaration, the header stands for that of it; else the function is declared here. The body sees what its own header declares
 abbrev pub taken_for : ℕ → At → Design → Taken
-taken_for k at d = record { first = at.header; end = next_number d; other = (span_of k d.spans).first }
+taken_for k at d = record { first = at.header; end = next_number d; other = (span_at d k).first }
 
 abbrev pub body_known : ℕ → At → Design → Declaration → Outcome → Outcome
 body_known k at d new o =
     record o {
       at = record o.at { function = Some k; result = new.mark; header_end = next_number d };
-      design = record d { taken = taken_for k at d ∷ d.taken };
+      design = record d { taken = d.taken ++ taken_for k at d ∷ [] };
     }
 
 abbrev pub body_entered : At → Design → Declaration → Outcome → Outcome
@@ -142,7 +146,7 @@ abbrev pub is_tied : Ended → ℕ → Bool
 is_tied x k = is_uninstantiated_function (declaration_at x.inner.design.scopes k).class && names_round x k x.inner.tree
 
 abbrev pub with_tied : Ended → ℕ → Design → Design
-with_tied x k d = if is_tied x k then record d { tied = (k, x.outer.unit) ∷ d.tied } else d
+with_tied x k d = if is_tied x k then tied_to k x.outer.unit d else d
 
 abbrev pub body_of : Option ℕ → Ended → Outcome
 body_of None x = finished x None None x.inner.tree x.inner.design None
@@ -154,19 +158,19 @@ body_ends x = body_of x.inner.at.function x
 -- ---- generics
 
 -- an instance has to give a type to each, and a function to each that has no `<>`
-abbrev pub with_formal : ℕ → Bool → Entering → Entering
-with_formal k needed e = with_formals (record { number = k; mode = form.In; is_needed = needed } ∷ []) e
+abbrev pub with_generic : ℕ → Bool → Entering → Entering
+with_generic k needed e = noted e (with_formal k (record { mode = form.In; is_needed = needed }))
 
 abbrev pub generic_function_ends : Ended → Outcome
 generic_function_ends x =
     declares x x.inner.tree
-    (with_formal (next_number x.inner.design) (is_form (form_at 4 x.parts) form.Absent)
+    (with_generic (next_number x.inner.design) (is_form (form_at 4 x.parts) form.Absent)
     (entering x.outer.region (function_of class.GenericFunction (word_of x) x.inner.at.mark x.inside.region x.inner.design) x.inner.design))
 
 abbrev pub generic_type_ends : Ended → Outcome
 generic_type_ends x =
     declares x x.inner.tree
-    (with_formal (next_number x.inner.design) true
+    (with_generic (next_number x.inner.design) true
     (with_operators x.outer.region (next_number x.inner.design) class.GenericType
     (entering x.outer.region (declaration_of class.GenericType (word_of x) None) x.inner.design)))
 

@@ -9,14 +9,16 @@ use Rattle.vd_forms.specs.declared.form.Form.{Form}
 use Rattle.vd_forms.specs.declared.form.Form.TheVariants as form
 use Rattle.vd_regions.specs.Scopes.{declaration_at}
 use Rattle.vd_sights.specs.Sights.{class_of, name_of}
-use Rattle.vd_naming.specs.Designs.{At, Design, Outcome}
-use Rattle.vd_naming.specs.Refusals.{lesser, broken, broken_if}
+use Rattle.vd_name_states.specs.declared.at.Actual.{Actual}
+use Rattle.vd_name_states.specs.Designs.{At, Design, Outcome, sight, gives}
+use Rattle.vd_name_states.specs.Noting.{formal_at}
+use Rattle.vd_name_states.specs.Refusals.{lesser, broken, broken_if}
 use Rattle.vd_naming.specs.Selected.{Meant, Means, Breaks, is_uninstantiated}
-use Rattle.vd_naming.specs.Expressions.{resolved, unresolved, sight, gives}
+use Rattle.vd_naming.specs.Expressions.{resolved, unresolved}
 use Rattle.vd_naming.specs.Paths.{one_that, path_meant, path_outside, prefix_pieces, named_path, refused_path, with_named, is_some}
 use Rattle.vd_naming.specs.Functions.{is_uninstantiated_function}
 use Rattle.vd_naming.specs.Statements.{alone}
-use Rattle.vd_naming.specs.Ports.{names_of_expression, formal_at, named_front, association_node}
+use Rattle.vd_naming.specs.Ports.{names_of_expression, named_front, association_node}
 use Rattle.vd_naming.specs.Associations.{Element, elements, value_for, has_value, are_known}
 use Rattle.vd_naming.specs.Actuals.{Known, paired, profile_in, function_among, actual_meant, declarations_meant, is_unfit, outcome_for, is_generic_function, types_given}
 
@@ -50,12 +52,12 @@ default_function k g = function_among k.sight (profile_in k g) (k.sight.visible 
 
 abbrev pub function_or_default : Design → Known → ℕ → Option (Forest Form) → Option ℕ
 function_or_default d k g (Some tree) = function_among k.sight (profile_in k g) (declarations_meant (actual_meant k.sight tree))
-function_or_default d k g None = if (formal_at g d.formals).is_needed then None else default_function k g
+function_or_default d k g None = if (formal_at d g).is_needed then None else default_function k g
 
-abbrev pub function_for : Design → Known → List Element → ℕ → List (ℕ × ℕ)
+abbrev pub function_for : Design → Known → List Element → ℕ → List Actual
 function_for d k es g = if is_generic_function (class_of k.sight g) then paired g (function_or_default d k g (value_for g es)) else []
 
-abbrev pub functions_given : Design → Known → List Element → List (ℕ × ℕ)
+abbrev pub functions_given : Design → Known → List Element → List Actual
 functions_given d k es = flat_map (function_for d k es) k.generics
 
 -- ---- generics without value, where each element is for one
@@ -70,7 +72,7 @@ lacks_default d k g =
     is_generic_function (class_of k.sight g) && (list_all is_some (profile_in k g) && lacks_function d (default_function k g))
 
 abbrev pub lacks_value : Design → Known → List Element → ℕ → Bool
-lacks_value d k es g = not (has_value g es) && ((formal_at g d.formals).is_needed || lacks_default d k g)
+lacks_value d k es g = not (has_value g es) && ((formal_at d g).is_needed || lacks_default d k g)
 
 abbrev pub missing_generic : At → Design → Known → List Element → Option Refused
 missing_generic at d k es = broken_if (are_known es && list_any (lacks_value d k es) k.generics) 309 at.label_place

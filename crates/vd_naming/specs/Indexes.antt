@@ -2,18 +2,16 @@
 use Rattle.std.specs.Prelude.{ℕ, Bool, false, not, Option, Some, None}
 use Rattle.vd_forest.specs.Forest.{Forest}
 use Rattle.vd_forms.specs.declared.form.Form.{Form}
-use Rattle.vd_forms.specs.declared.form.Form.TheVariants as form
 use Rattle.vd_overloads.specs.Interpretations.{first_place}
 use Rattle.vd_sights.specs.Sights.{Sight}
-use Rattle.vd_naming.specs.Designs.{At, Design, Outcome}
-use Rattle.vd_naming.specs.Refusals.{lesser, broken_if}
-use Rattle.vd_naming.specs.Rows as row
-use Rattle.vd_naming.specs.Expressions.{sight, expression, at_hand, read_as_mark, mark_declared, type_declared, discrete_class}
+use Rattle.vd_name_states.specs.declared.steps.Want.TheVariants as want
+use Rattle.vd_name_states.specs.Designs.{At, Design, Outcome, sight}
+use Rattle.vd_name_states.specs.Refusals.{lesser, broken_if}
+use Rattle.vd_naming.specs.Expressions.{expression, at_hand, read_as_mark, mark_declared, type_declared, discrete_class}
 
--- any bounds of a discrete mark, or a discrete range
-abbrev pub array_index : (At → Design → Outcome) → At → Design → Form → Forest Form → Outcome
-array_index looked at d form.UnconstrainedIndex tree = looked at d
-array_index looked at d _ tree = at_hand (expression row.AnyRange at d tree)
+-- a discrete range
+abbrev pub array_index : At → Design → Forest Form → Outcome
+array_index at d tree = at_hand (expression want.AnyRange at d tree)
 
 abbrev pub is_other_type : Sight → Option ℕ → Bool
 is_other_type s None = false

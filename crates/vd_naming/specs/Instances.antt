@@ -1,6 +1,6 @@
 -- Instances of packages and functions with generics: what they declare at their ends, and what is refused of them. (IEEE 1076-2019, package instantiation
 -- declarations; subprogram instantiation declarations)
-use Rattle.std.specs.Prelude.{ℕ, ◌==◌, Bool, true, false, ◌&&◌, ◌||◌, not, List, ◌∷◌, length, Option, Some, None, option_map, if◌then◌else◌}
+use Rattle.std.specs.Prelude.{ℕ, Bool, true, false, ◌&&◌, ◌||◌, not, List, length, Option, Some, None, option_map, if◌then◌else◌}
 use Rattle.std.specs.List.{list_all, list_any}
 use Rattle.vd_bytes.specs.declared.answers.Refused.{Refused}
 use Rattle.vd_declarations.specs.declared.classes.Class.{Class}
@@ -12,14 +12,15 @@ use Rattle.vd_text_rules.specs.Designators.{is_operator}
 use Rattle.vd_trees.specs.declared.revision.Revision.{Revision}
 use Rattle.vd_regions.specs.Scopes.{declaration_at}
 use Rattle.vd_forest.specs.Forest.{Forest, more, skipped}
-use Rattle.vd_naming.specs.Designs.{Design, Outcome}
-use Rattle.vd_naming.specs.Refusals.{lesser, broken_if}
-use Rattle.vd_naming.specs.Expressions.{sight}
+use Rattle.vd_name_states.specs.declared.at.Actual.{Actual}
+use Rattle.vd_name_states.specs.Designs.{Design, Outcome, sight}
+use Rattle.vd_name_states.specs.Entering.{declaration_of, entering}
+use Rattle.vd_name_states.specs.Noting.{has_body, with_body, is_instance, as_instance, is_tied_elsewhere}
+use Rattle.vd_name_states.specs.Refusals.{lesser, broken_if}
 use Rattle.vd_naming.specs.Paths.{is_some}
-use Rattle.vd_naming.specs.Entering.{declaration_of, entering, has_body}
 use Rattle.vd_naming.specs.Endings.{Ended, finished, word_of, entered}
 use Rattle.vd_naming.specs.Functions.{is_written_function}
-use Rattle.vd_naming.specs.Units.{entering_unit, is_instance}
+use Rattle.vd_naming.specs.Units.{entering_unit}
 use Rattle.vd_naming.specs.Actuals.{actual_of}
 use Rattle.vd_naming.specs.Copies.{Copying, copying, number_behind, numbers_of_copies, type_of_copy, with_copies}
 
@@ -30,7 +31,7 @@ is_settled class.GenericType actual = is_some actual
 is_settled class.GenericFunction actual = is_some actual
 is_settled _ actual = true
 
-abbrev pub are_settled : Design → List (ℕ × ℕ) → List ℕ → Bool
+abbrev pub are_settled : Design → List Actual → List ℕ → Bool
 are_settled d actuals generics = list_all (λ g. is_settled (declaration_at d.scopes g).class (actual_of g actuals)) generics
 
 abbrev pub copying_at : Ended → ℕ → Copying
@@ -90,11 +91,8 @@ refused_symbol x n =
     broken_if (is_wrong_symbol x.outer.revision (skipped 1 x.parts) (length (declaration_at x.inner.design.scopes n).parameters)) 307 x.inner.at.word_place
 
 -- the body of the function has ended; and it isn't tied to another unit
-abbrev pub is_tied_elsewhere : ℕ → ℕ → List (ℕ × ℕ) → Bool
-is_tied_elsewhere n unit ps = list_any (λ p. (p.0 == n) && not (p.1 == unit)) ps
-
 abbrev pub refused_body : Ended → ℕ → Option Refused
-refused_body x n = broken_if (not (has_body x.inner.design n) || is_tied_elsewhere n x.outer.unit x.inner.design.tied) 309 x.place
+refused_body x n = broken_if (not (has_body x.inner.design n) || is_tied_elsewhere n x.outer.unit x.inner.design) 309 x.place
 
 abbrev pub function_instance : Ended → Copying → Declaration
 function_instance x c =
@@ -106,8 +104,8 @@ function_instance x c =
 
 -- In a package declaration its body ends with the package, or where that of the package begins.
 abbrev pub with_instance : Bool → ℕ → Design → Design
-with_instance true k d = record d { instances = k ∷ d.instances }
-with_instance false k d = record d { instances = k ∷ d.instances; bodies = k ∷ d.bodies }
+with_instance true k d = as_instance k d
+with_instance false k d = with_body k (as_instance k d)
 
 abbrev pub function_declared : Ended → Copying → Outcome
 function_declared x c =

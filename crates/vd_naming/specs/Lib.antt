@@ -1,12 +1,8 @@
-pub mod Refusals
-pub mod Rows
-pub mod Designs
 pub mod Selected
 pub mod Pieces
 pub mod Edges
 pub mod Expressions
 pub mod Paths
-pub mod Entering
 pub mod Endings
 pub mod Functions
 pub mod Units

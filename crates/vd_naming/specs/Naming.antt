@@ -1,16 +1,25 @@
 -- The names of a design: what each tree comes to, by the rows of the forms. (IEEE 1076, scope and visibility; the order of analysis)
-use Rattle.std.specs.Prelude.{ℕ, Bool, List, [], ◌∷◌, None, if◌then◌else◌}
+use Rattle.std.specs.Prelude.{ℕ, false, List, [], ◌∷◌, Option, None, if◌then◌else◌}
+use Rattle.vd_bytes.specs.declared.answers.Refused.{Refused}
 use Rattle.vd_bytes.specs.declared.places.Place.{Place}
-use Rattle.vd_forest.specs.Forest.{Forest, nothing, more, no_place}
+use Rattle.vd_forest.specs.Forest.{Forest, no_place}
 use Rattle.vd_forms.specs.declared.form.Form.{Form}
+use Rattle.vd_forms.specs.declared.form.Form.TheVariants as form
 use Rattle.vd_forms.specs.Forms.{is_among, expressions}
 use Rattle.vd_given.specs.declared.numbers.TheConstants.{REGION_OF_LIBRARIES}
 use Rattle.vd_given.specs.Given.{given_scopes}
 use Rattle.vd_regions.specs.Scopes.{Scopes}
 use Rattle.vd_trees.specs.declared.revision.Revision.{Revision}
-use Rattle.vd_naming.specs.Designs.{At, Design, Outcome, followed, no_trees, refused_too}
-use Rattle.vd_naming.specs.Rows.{Step, Ending, row_of}
-use Rattle.vd_naming.specs.Rows as row
+use Rattle.vd_resolved.specs.declared.node.Resolved.{Resolved}
+use Rattle.vd_name_states.specs.Designs.{At, Design, Outcome, begin_design, refused_too}
+use Rattle.vd_name_states.specs.Rows.{row_of, class_of}
+use Rattle.vd_name_states.specs.Members.{next_number}
+use Rattle.vd_name_states.specs.declared.steps.Step.{Step}
+use Rattle.vd_name_states.specs.declared.steps.Step.TheVariants as step
+use Rattle.vd_name_states.specs.declared.steps.Want.TheVariants as want
+use Rattle.vd_name_states.specs.declared.steps.Ending.{Ending}
+use Rattle.vd_name_states.specs.declared.steps.Ending.TheVariants as ending
+use Rattle.vd_walking.specs.Walking.{Walker, Entry, Done, Inside, walked}
 use Rattle.vd_naming.specs.Expressions.{expression, target, selector}
 use Rattle.vd_naming.specs.Paths.{mark}
 use Rattle.vd_naming.specs.Endings.{Ended, nothing_ends, first_ends, typed_ends, objects_end, ports_end, indication_ends, type_ends, subtype_ends}
@@ -18,7 +27,6 @@ use Rattle.vd_naming.specs.Functions.{header_ends, function_ends, body_ends, gen
 use Rattle.vd_naming.specs.Units.{entity_word, library_word, use_name, context_name, unit_ends, entity_ends, architecture_ends, package_ends, package_body_ends, context_ends}
 use Rattle.vd_naming.specs.Statements.{alone, skipped, word, simple_name, names, label, label_name, parameter, surplus}
 use Rattle.vd_naming.specs.Openings.{Opened, opened, opens, with_steps}
-use Rattle.vd_naming.specs.Entering.{next_number}
 use Rattle.vd_naming.specs.Indexes.{array_index, index_mark}
 use Rattle.vd_naming.specs.Views.{view_name, converse, of_viewed_record, element_names, view_ends}
 use Rattle.vd_naming.specs.Generics.{generic_package, generic_function, generic_map}
@@ -37,113 +45,134 @@ steps_behind (step ∷ steps) = steps
 abbrev pub stepped : At → At
 stepped at = record at { steps = steps_behind at.steps }
 
--- ---- endings
+-- ---- endings. Some hang on the whole design
 
-abbrev pub ended : Ending → Ended → Outcome
-ended row.Nothing x = nothing_ends x
-ended row.First x = first_ends x
-ended row.Typed x = typed_ends x
-ended row.Indicated x = indication_ends x
-ended row.ClauseEnds x = clause_ends x
-ended (row.Objects class names) x = objects_end class names x
-ended row.AllPorts x = ports_end x
-ended row.NewType x = type_ends x
-ended row.NewSubtype x = subtype_ends x
-ended row.NewView x = view_ends x
-ended row.NewGenericType x = generic_type_ends x
-ended row.NewGenericFunction x = generic_function_ends x
-ended row.NewFunction x = function_ends x
-ended row.BodyEnds x = body_ends x
-ended row.NewFunctionInstance x = function_instance_ends x
-ended row.UnitEnds x = unit_ends x
-ended row.NewEntity x = entity_ends x
-ended row.NewArchitecture x = architecture_ends x
-ended row.NewPackage x = package_ends x
-ended row.PackageBodyEnds x = package_body_ends x
-ended row.NewPackageInstance x = package_instance_ends x
-ended row.NewContext x = context_ends x
+abbrev pub ended : Forest Form → Ending → Ended → Outcome
+ended whole ending.Nothing x = nothing_ends x
+ended whole ending.First x = first_ends x
+ended whole ending.Typed x = typed_ends x
+ended whole ending.Indicated x = indication_ends x
+ended whole ending.ClauseEnds x = clause_ends x
+ended whole (ending.Objects object names) x = objects_end (class_of object) names x
+ended whole ending.AllPorts x = ports_end x
+ended whole ending.NewType x = type_ends x
+ended whole ending.NewSubtype x = subtype_ends x
+ended whole ending.NewView x = view_ends x
+ended whole ending.NewGenericType x = generic_type_ends x
+ended whole ending.NewGenericFunction x = generic_function_ends x
+ended whole ending.NewFunction x = function_ends x
+ended whole ending.BodyEnds x = body_ends x
+ended whole ending.NewFunctionInstance x = function_instance_ends x
+ended whole ending.UnitEnds x = unit_ends x
+ended whole ending.NewEntity x = entity_ends x
+ended whole ending.NewArchitecture x = architecture_ends x
+ended whole ending.NewPackage x = package_ends whole x
+ended whole ending.PackageBodyEnds x = package_body_ends x
+ended whole ending.NewPackageInstance x = package_instance_ends x
+ended whole ending.NewContext x = context_ends x
 
 -- ---- a tree by its own row: what it opens, its parts, what it declares
 
-abbrev pub looked_into : Form → List ℕ → Place → Forest Form → At → (At → Design → Outcome) → Opened → Outcome
-looked_into f text place parts at inner o =
-    refused_too o.first
-    (ended (row_of f).ending (record { form = f; text = text; place = place; parts = parts; outer = at; inside = o.at; inner = inner o.at o.design }))
+-- what is kept of a node while its parts are walked: its step, what is known in front of it and before its parts, and a rule that is broken there
+pub record Kept : Type 0 where
+  pub step : Step
+  pub outer : At
+  pub inside : At
+  pub first : Option Refused
 
-abbrev pub looked : Form → List ℕ → Place → Forest Form → (At → Design → Outcome) → At → Design → Outcome
-looked f text place parts inner at d = looked_into f text place parts at inner (opened f at d place parts)
+abbrev pub Entered : Type 0
+Entered = Entry Resolved At Design Kept
+
+abbrev pub inside_with : Step → At → Opened → Entered
+inside_with s outer o = Inside o.at o.design (record { step = s; outer = outer; inside = o.at; first = o.first })
+
+abbrev pub looked : Step → Form → Place → Forest Form → At → Design → Entered
+looked s f place parts at d = inside_with s at (opened f at d place parts)
 
 -- in the region that is open, as the body of a `for` generate stands in that of its parameter
-abbrev pub within : Form → List ℕ → Place → Forest Form → (At → Design → Outcome) → At → Design → Outcome
-within f text place parts inner at d = looked_into f text place parts at inner (with_steps (row_of f) (next_number d) (opens at d))
+abbrev pub within : Form → At → Design → Entered
+within f at d = inside_with step.Within at (with_steps (row_of f) (next_number d) (opens at d))
+
+-- at the end of its parts
+abbrev pub looked_at : Forest Form → Kept → Form → List ℕ → Place → Forest Form → Outcome → Outcome
+looked_at whole k f text place parts inner =
+    refused_too k.first
+    (ended whole (row_of f).ending (record { form = f; text = text; place = place; parts = parts; outer = k.outer; inside = k.inside; inner = inner }))
+
+-- the subtype behind the view of a port is one of the view's record type
+abbrev pub left_by : Step → Form → Place → At → Outcome → Outcome
+left_by step.ViewSubtype f place at o = of_viewed_record f place at o
+left_by _ f place at o = o
 
 -- ---- steps, each on one tree
 
-abbrev pub chosen : Form → List ℕ → Place → Forest Form → (At → Design → Outcome) → At → Design → Outcome
-chosen f text place parts inner at d =
-    if is_among expressions f then expression row.AtHand at d (alone f text place parts) else looked f text place parts inner at d
+abbrev pub chosen : Form → List ℕ → Place → Forest Form → At → Design → Entered
+chosen f text place parts at d =
+    if is_among expressions f then Done (expression want.AtHand at d (alone f text place parts)) else looked step.Chosen f place parts at d
 
-abbrev pub done : Step → Form → List ℕ → Place → Forest Form → (At → Design → Outcome) → At → Design → Outcome
-done row.Skip f text place parts inner at d = skipped at d (alone f text place parts)
-done row.Look f text place parts inner at d = looked f text place parts inner at d
-done row.Within f text place parts inner at d = within f text place parts inner at d
-done (row.Expression w) f text place parts inner at d = expression w at d (alone f text place parts)
-done row.Chosen f text place parts inner at d = chosen f text place parts inner at d
-done row.Surplus f text place parts inner at d = surplus at d place (alone f text place parts)
-done row.Word f text place parts inner at d = word at d f text place parts
-done row.SimpleName f text place parts inner at d = simple_name at d place (alone f text place parts)
-done row.Names f text place parts inner at d = names at d f text place parts
-done row.Label f text place parts inner at d = label at d f text place
-done row.LabelName f text place parts inner at d = label_name at d f text place
-done row.Mark f text place parts inner at d = mark at d place (alone f text place parts)
-done row.Result f text place parts inner at d = header_ends (mark at d place (alone f text place parts))
-done row.IndexMark f text place parts inner at d = index_mark at d (alone f text place parts)
-done row.Target f text place parts inner at d = target at d (alone f text place parts)
-done row.Selector f text place parts inner at d = selector at d (alone f text place parts)
-done (row.Parameter class) f text place parts inner at d = parameter class at d (alone f text place parts)
-done row.LibraryWord f text place parts inner at d = library_word at d f text place
-done row.UseName f text place parts inner at d = use_name at d place (alone f text place parts)
-done row.ContextName f text place parts inner at d = context_name at d place (alone f text place parts)
-done row.EntityWord f text place parts inner at d = entity_word at d f text place
-done row.ArrayIndex f text place parts inner at d = array_index (looked f text place parts inner) at d f (alone f text place parts)
-done row.ViewName f text place parts inner at d = view_name at d place (alone f text place parts)
-done row.Converse f text place parts inner at d = converse at d f text place
-done row.ViewSubtype f text place parts inner at d = of_viewed_record f place at (looked f text place parts inner at d)
-done row.ElementNames f text place parts inner at d = element_names at d f text place parts
-done row.GenericPackage f text place parts inner at d = generic_package at d place (alone f text place parts)
-done row.GenericFunctionName f text place parts inner at d = generic_function at d place (alone f text place parts)
-done row.InstanceEntity f text place parts inner at d = instance_entity at d place (alone f text place parts)
-done row.InstanceArchitecture f text place parts inner at d = instance_architecture at d f text place
-done row.Generics f text place parts inner at d = generic_map at d f text place parts
-done row.Ports f text place parts inner at d = port_map at d f text place parts
+-- any bounds of a discrete mark, or a discrete range
+abbrev pub index_of_array : Form → List ℕ → Place → Forest Form → At → Design → Entered
+index_of_array form.UnconstrainedIndex text place parts at d = looked step.ArrayIndex form.UnconstrainedIndex place parts at d
+index_of_array f text place parts at d = Done (array_index at d (alone f text place parts))
 
--- ---- trees side by side
+abbrev pub done : Forest Form → Step → Form → List ℕ → Place → Forest Form → At → Design → Entered
+done whole step.Skip f text place parts at d = Done (skipped at d (alone f text place parts))
+done whole step.Look f text place parts at d = looked step.Look f place parts at d
+done whole step.Within f text place parts at d = within f at d
+done whole (step.Expression w) f text place parts at d = Done (expression w at d (alone f text place parts))
+done whole step.Chosen f text place parts at d = chosen f text place parts at d
+done whole step.Surplus f text place parts at d = Done (surplus at d place (alone f text place parts))
+done whole step.Word f text place parts at d = Done (word at d f text place parts)
+done whole step.SimpleName f text place parts at d = Done (simple_name at d place (alone f text place parts))
+done whole step.Names f text place parts at d = Done (names at d f text place parts)
+done whole step.Label f text place parts at d = Done (label at d f text place)
+done whole step.LabelName f text place parts at d = Done (label_name at d f text place)
+done whole step.Mark f text place parts at d = Done (mark at d place (alone f text place parts))
+done whole step.Result f text place parts at d = Done (header_ends (mark at d place (alone f text place parts)))
+done whole step.IndexMark f text place parts at d = Done (index_mark at d (alone f text place parts))
+done whole step.Target f text place parts at d = Done (target at d (alone f text place parts))
+done whole step.Selector f text place parts at d = Done (selector at d (alone f text place parts))
+done whole (step.Parameter object) f text place parts at d = Done (parameter (class_of object) at d (alone f text place parts))
+done whole step.LibraryWord f text place parts at d = Done (library_word at d f text place)
+done whole step.UseName f text place parts at d = Done (use_name at d place (alone f text place parts))
+done whole step.ContextName f text place parts at d = Done (context_name at d place (alone f text place parts))
+done whole step.EntityWord f text place parts at d = Done (entity_word at d f text place)
+done whole step.ArrayIndex f text place parts at d = index_of_array f text place parts at d
+done whole step.ViewName f text place parts at d = Done (view_name at d place (alone f text place parts))
+done whole step.Converse f text place parts at d = Done (converse at d f text place)
+done whole step.ViewSubtype f text place parts at d = looked step.ViewSubtype f place parts at d
+done whole step.ElementNames f text place parts at d = Done (element_names at d f text place parts)
+done whole step.GenericPackage f text place parts at d = Done (generic_package at d place (alone f text place parts))
+done whole step.GenericFunctionName f text place parts at d = Done (generic_function at d place (alone f text place parts))
+done whole step.InstanceEntity f text place parts at d = Done (instance_entity at d place (alone f text place parts))
+done whole step.InstanceArchitecture f text place parts at d = Done (instance_architecture whole at d f text place)
+done whole step.Generics f text place parts at d = Done (generic_map at d f text place parts)
+done whole step.Ports f text place parts at d = Done (port_map at d f text place parts)
 
-abbrev pub named_trees : Forest Form → At → Design → Outcome
-named_trees nothing at d = no_trees at d
-named_trees (more f text place parts next) at d =
-    followed (done (step_of at) f text place parts (named_trees parts) (stepped at) d) (named_trees next)
+-- ---- trees side by side: a walk over the forest
+
+abbrev pub naming : Forest Form → Walker Form Resolved At Design Kept
+naming whole = record {
+  enter = λ f text place parts at d. done whole (step_of at) f text place parts (stepped at) d;
+  leave = λ k f text place parts inner. left_by k.step f place k.outer (looked_at whole k f text place parts inner);
+}
 
 -- ---- a design
 
-abbrev pub begin_design : Scopes → Design
-begin_design s = record { scopes = s; bodies = []; instances = []; bounded = []; formals = []; loops = []; spans = []; tied = []; taken = [] }
-
-abbrev pub begin : Revision → Forest Form → At
-begin r whole = record {
+abbrev pub begin : Revision → At
+begin r = record {
   revision = r;
-  whole = whole;
   unit = 0;
   region = REGION_OF_LIBRARIES;
-  is_package = Bool.false;
+  is_package = false;
   word = [];
   word_place = no_place;
   label_place = no_place;
-  is_loop = Bool.false;
+  is_loop = false;
   named = None;
   mark = None;
   selector = None;
-  is_matching = Bool.false;
+  is_matching = false;
   result = None;
   viewed = None;
   actuals = [];
@@ -152,12 +181,12 @@ begin r whole = record {
   function = None;
   next = 0;
   steps = [];
-  rest = row.Look;
+  rest = step.Look;
 }
 
 -- the names of a design, where some scopes are given
 abbrev pub names_from : Scopes → Revision → Forest Form → Outcome
-names_from s r units = named_trees units (begin r units) (begin_design s)
+names_from s r units = walked (naming units) units (begin r) (begin_design s)
 
 abbrev pub names_of : Revision → Forest Form → Outcome
 names_of r units = names_from (given_scopes r) r units

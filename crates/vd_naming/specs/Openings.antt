@@ -9,14 +9,18 @@ use Rattle.vd_forms.specs.declared.form.Form.TheVariants as form
 use Rattle.vd_forms.specs.Forms.{same_form}
 use Rattle.vd_given.specs.declared.numbers.TheConstants.{REGION_OF_LIBRARIES}
 use Rattle.vd_given.specs.Entries.{with_region}
-use Rattle.vd_naming.specs.Designs.{At, Design}
-use Rattle.vd_naming.specs.Refusals.{lesser, broken_if}
-use Rattle.vd_naming.specs.Rows.{Row, row_of, Opening}
-use Rattle.vd_naming.specs.Rows as row
-use Rattle.vd_naming.specs.Paths.{refused_path, is_entity}
-use Rattle.vd_naming.specs.Entering.{next_number, next_region, with_scopes, with_part, has_body}
+use Rattle.vd_name_states.specs.Rows.{Row, row_of}
+use Rattle.vd_name_states.specs.declared.sorts.Sort.TheVariants as sort
+use Rattle.vd_name_states.specs.declared.steps.Opening.{Opening}
+use Rattle.vd_name_states.specs.declared.steps.Opening.TheVariants as opening
+use Rattle.vd_name_states.specs.Designs.{At, Design, with_scopes}
+use Rattle.vd_name_states.specs.Entering.{with_part}
+use Rattle.vd_name_states.specs.Members.{next_number, next_region}
+use Rattle.vd_name_states.specs.Noting.{has_body, with_bodies}
+use Rattle.vd_name_states.specs.Refusals.{lesser, broken_if}
+use Rattle.vd_naming.specs.Paths.{refused_path}
 use Rattle.vd_naming.specs.Endings.{form_of_next}
-use Rattle.vd_naming.specs.Units.{any_class, is_library_word, no_unit, unit_named, has_package_body, region_inside, round_unit, with_bodies, instances_in}
+use Rattle.vd_naming.specs.Units.{is_library_word, no_unit, unit_named, region_inside, round_unit, instances_in}
 
 -- what is known inside, and a rule that is broken
 pub record Opened : Type 0 where
@@ -46,7 +50,7 @@ entity_opens at d = let o = nested at d in
 
 -- the region of an architecture continues that of its entity
 abbrev pub architecture_opens : At → Design → Forest Form → Opened
-architecture_opens at d parts = in_region at d at.region (region_inside d (unit_named is_entity (text_of (next_of parts)) d))
+architecture_opens at d parts = in_region at d at.region (region_inside d (unit_named sort.Entity (text_of (next_of parts)) d))
 
 abbrev pub package_opens : At → Design → Opened
 package_opens at d = let o = with_header d (nested at d) in
@@ -54,7 +58,7 @@ package_opens at d = let o = with_header d (nested at d) in
 
 -- that of a package body continues that of its package. No other body of it may stand in front
 abbrev pub no_body : Option ℕ → List ℕ → Design → Place → Option Refused
-no_body None name d place = lesser (broken_if (is_library_word name) 301 place) (refused_path None (no_unit (unit_named any_class name d)) place)
+no_body None name d place = lesser (broken_if (is_library_word name) 301 place) (refused_path None (no_unit (unit_named sort.Any name d)) place)
 no_body (Some k) name d place = broken_if (has_body d k) 301 place
 
 abbrev pub instances_inside : Option ℕ → Design → List ℕ
@@ -63,7 +67,7 @@ instances_inside (Some r) d = instances_in r d
 
 abbrev pub package_body_opens : At → Design → Place → Forest Form → Opened
 package_body_opens at d place parts =
-    let k = unit_named has_package_body (text_of parts) d in
+    let k = unit_named sort.WrittenPackage (text_of parts) d in
     record (in_region at (with_bodies (instances_inside (region_inside d k) d) d) at.region (region_inside d k)) { first = no_body k (text_of parts) d (unwrap_or (place_of parts) place) }
 
 -- a record type has a region
@@ -90,26 +94,25 @@ abbrev pub label_opens : At → Design → Forest Form → Opened
 label_opens at d parts = opens (record at { is_loop = is_loop (form_of_next parts) }) d
 
 abbrev pub opened_as : Opening → At → Design → Place → Forest Form → Opened
-opened_as row.Stay at d place parts = opens at d
-opened_as row.Nested at d place parts = nested at d
-opened_as row.OfHeader at d place parts = with_header d (nested at d)
-opened_as row.OfUnit at d place parts = in_region at d (round_unit at d parts) None
-opened_as row.OfEntity at d place parts = entity_opens at d
-opened_as row.OfArchitecture at d place parts = architecture_opens at d parts
-opened_as row.OfPackage at d place parts = package_opens at d
-opened_as row.OfPackageBody at d place parts = package_body_opens at d place parts
-opened_as row.OfType at d place parts = type_opens at d parts
-opened_as row.OfSelection at d place parts = selection_opens at d parts
-opened_as row.OfReturn at d place parts = opens (record at { mark = at.result }) d
-opened_as row.OfElements at d place parts = opens (record at { viewed = at.mark }) d
-opened_as row.OfLabel at d place parts = label_opens at d parts
-opened_as row.OfInstance at d place parts = opens (record at { label_place = place }) d
-opened_as row.OfPorts at d place parts = opens at d
-opened_as row.InPorts at d place parts = opens at d
+opened_as opening.Stay at d place parts = opens at d
+opened_as opening.Nested at d place parts = nested at d
+opened_as opening.OfHeader at d place parts = with_header d (nested at d)
+opened_as opening.OfUnit at d place parts = in_region at d (round_unit at d parts) None
+opened_as opening.OfEntity at d place parts = entity_opens at d
+opened_as opening.OfArchitecture at d place parts = architecture_opens at d parts
+opened_as opening.OfPackage at d place parts = package_opens at d
+opened_as opening.OfPackageBody at d place parts = package_body_opens at d place parts
+opened_as opening.OfType at d place parts = type_opens at d parts
+opened_as opening.OfSelection at d place parts = selection_opens at d parts
+opened_as opening.OfReturn at d place parts = opens (record at { mark = at.result }) d
+opened_as opening.OfElements at d place parts = opens (record at { viewed = at.mark }) d
+opened_as opening.OfLabel at d place parts = label_opens at d parts
+opened_as opening.OfInstance at d place parts = opens (record at { label_place = place }) d
+opened_as opening.InPorts at d place parts = opens at d
 
 -- the first name of a list gets the next number, but in a list of ports, which are declared together
 abbrev pub next_in : Opening → At → Design → ℕ
-next_in row.InPorts at d = at.next
+next_in opening.InPorts at d = at.next
 next_in _ at d = next_number d
 
 abbrev pub with_steps : Row → ℕ → Opened → Opened

@@ -13,9 +13,9 @@ use Rattle.vd_sights.specs.Kinds.{kind_of}
 use Rattle.vd_sights.specs.Sights.{Sight}
 use Rattle.vd_sights.specs.Types.{type_meant}
 use Rattle.vd_ways.specs.Ways.{selected_name}
-use Rattle.vd_naming.specs.Designs.{At, Design, Outcome}
-use Rattle.vd_naming.specs.Refusals.{lesser, broken, broken_if}
-use Rattle.vd_naming.specs.Expressions.{resolved, unresolved, sight}
+use Rattle.vd_name_states.specs.Designs.{At, Design, Outcome, sight}
+use Rattle.vd_name_states.specs.Refusals.{lesser, broken, broken_if}
+use Rattle.vd_naming.specs.Expressions.{resolved, unresolved}
 use Rattle.vd_naming.specs.Selected.{Meant, Means, Breaks, some_or, meant_behind, means_outside}
 
 abbrev pub meant_by : Sight → Meant → Forest Form → Meant

@@ -1,8 +1,7 @@
 -- What is refused of the names of an expression beside what is visible under them: a package with generics that is named outside itself and its body,
 -- and an attribute of an array mark without bounds. (IEEE 1076-2019, generic packages; IEEE 1076, predefined attributes)
-use Rattle.std.specs.Prelude.{ℕ, ◌==◌, Bool, false, ◌&&◌, not, [], ◌∷◌, Option, Some, None, is_some}
+use Rattle.std.specs.Prelude.{ℕ, Bool, false, ◌&&◌, not, [], ◌∷◌, Option, Some, None, is_some}
 use Rattle.std.specs.Option.{unwrap_or}
-use Rattle.std.specs.List.{list_any}
 use Rattle.vd_bytes.specs.declared.answers.Refused.{Refused}
 use Rattle.vd_bytes.specs.declared.places.Place.{Place}
 use Rattle.vd_finding.specs.Finding.{Finder, first_found}
@@ -12,8 +11,9 @@ use Rattle.vd_forms.specs.declared.form.Form.TheVariants as form
 use Rattle.vd_sights.specs.Sights.{Sight, class_of}
 use Rattle.vd_sights.specs.Types.{element_of, type_meant}
 use Rattle.vd_ways.specs.Ways.{selection_name}
-use Rattle.vd_naming.specs.Designs.{Design}
-use Rattle.vd_naming.specs.Refusals.{lesser, broken_if}
+use Rattle.vd_name_states.specs.Noting.{has_bounds}
+use Rattle.vd_name_states.specs.Designs.{Design}
+use Rattle.vd_name_states.specs.Refusals.{lesser, broken_if}
 use Rattle.vd_naming.specs.Selected.{Meant, Means, Breaks, some_or, meant_behind, means_outside}
 
 -- ---- the pieces of a name: points, and then others, behind which nothing is known here
@@ -29,7 +29,7 @@ is_array s None = false
 is_array s (Some t) = is_some (element_of (class_of s t))
 
 abbrev pub is_unbounded : Sight → Design → ℕ → Bool
-is_unbounded s d k = is_array s (type_meant s k) && not (list_any (λ j. j == k) d.bounded)
+is_unbounded s d k = is_array s (type_meant s k) && not (has_bounds d k)
 
 abbrev pub means_unbounded : Sight → Design → Meant → Bool
 means_unbounded s d (Means (k ∷ [])) = is_unbounded s d k

@@ -24,13 +24,15 @@ use Rattle.vd_overloads.specs.declared.wanted.Wanted.TheVariants as wanted
 use Rattle.vd_sights.specs.Lists.{simple_name, is_name}
 use Rattle.vd_sights.specs.Sights.{Sight}
 use Rattle.vd_ways.specs.Ways.{ways, ends}
-use Rattle.vd_naming.specs.Designs.{At, Formal, Design, Outcome}
-use Rattle.vd_naming.specs.Refusals.{lesser, broken, broken_if}
+use Rattle.vd_name_states.specs.Noting.{formal_at}
+use Rattle.vd_name_states.specs.declared.sorts.Sort.TheVariants as sort
+use Rattle.vd_name_states.specs.Designs.{At, Design, Outcome, standpoint, sight, gives}
+use Rattle.vd_name_states.specs.Refusals.{lesser, broken, broken_if}
 use Rattle.vd_naming.specs.Pieces.{refused_pieces}
-use Rattle.vd_naming.specs.Expressions.{resolved, unresolved, standpoint, sight, gives, only_reading, refused_unless_one, mark_of, read_as, refused_names}
+use Rattle.vd_naming.specs.Expressions.{resolved, unresolved, only_reading, refused_unless_one, mark_of, read_as, refused_names}
 use Rattle.vd_naming.specs.Selected.{Breaks}
 use Rattle.vd_naming.specs.Paths.{named_as, refused_path, is_entity, is_some}
-use Rattle.vd_naming.specs.Units.{main_of, found_in, region_inside, region_of_architectures, any_class}
+use Rattle.vd_naming.specs.Units.{main_of, found_in, region_inside, region_of_architectures}
 
 -- ---- the entity and its architecture
 
@@ -60,22 +62,22 @@ abbrev pub not_in_front : Option ℕ → ℕ → Bool
 not_in_front None unit = true
 not_in_front (Some n) unit = not (nat_lt n unit)
 
-abbrev pub default_architecture : At → Option ℕ → Option Refused
-default_architecture at None = None
-default_architecture at (Some k) = broken_if (not_in_front (last_architecture at.word 0 at.whole) at.unit) 302 at.word_place
+abbrev pub default_architecture : Forest Form → At → Option ℕ → Option Refused
+default_architecture whole at None = None
+default_architecture whole at (Some k) = broken_if (not_in_front (last_architecture at.word 0 whole) at.unit) 302 at.word_place
 
 abbrev pub architecture_named : Option ℕ → Design → List ℕ → Option ℕ
 architecture_named None d text = None
-architecture_named (Some inside) d text = found_in (region_of_architectures inside) any_class text d
+architecture_named (Some inside) d text = found_in (region_of_architectures inside) sort.Any text d
 
 -- where the entity isn't known, nothing is refused of its architecture
 abbrev pub refused_architecture : Option ℕ → Option ℕ → Place → Option Refused
 refused_architecture None k place = None
 refused_architecture (Some entity) k place = refused_path k (Breaks 302) place
 
-abbrev pub instance_architecture : At → Design → Form → List ℕ → Place → Outcome
-instance_architecture at d form.Absent text place = gives at d (more (resolved form.Absent None None) text place nothing nothing) (default_architecture at at.named)
-instance_architecture at d f text place =
+abbrev pub instance_architecture : Forest Form → At → Design → Form → List ℕ → Place → Outcome
+instance_architecture whole at d form.Absent text place = gives at d (more (resolved form.Absent None None) text place nothing nothing) (default_architecture whole at at.named)
+instance_architecture whole at d f text place =
     let k = architecture_named (region_inside d at.named) d text in
     gives at d (more (resolved f k None) text place nothing nothing) (refused_architecture at.named k place)
 
@@ -152,10 +154,6 @@ pub record Map : Type 0 where
 abbrev pub no_map : Map
 no_map = record { tree = nothing; first = None; given = []; is_known = true; is_named = false }
 
-abbrev pub formal_at : ℕ → List Formal → Formal
-formal_at k [] = record { number = k; mode = form.In; is_needed = false }
-formal_at k (f ∷ fs) = if f.number == k then f else formal_at k fs
-
 -- an element for a port: its trees, and what is refused in it
 abbrev pub is_given : ℕ → Map → Bool
 is_given k m = list_any (λ j. j == k) m.given
@@ -192,7 +190,7 @@ value_as None at d tree = gives at d (unresolved tree) None
 value_as (Some t) at d tree = read_as at d (wanted.OfType t) tree
 
 abbrev pub actual : ℕ → Option ℕ → At → Design → Place → Form → Forest Form → Outcome
-actual k t at d place form.Open tree = gives at d (unresolved tree) (broken_if (formal_at k d.formals).is_needed 310 place)
+actual k t at d place form.Open tree = gives at d (unresolved tree) (broken_if (formal_at d k).is_needed 310 place)
 actual k t at d place _ tree = value_as t at d tree
 
 -- by position: none stands behind an association
@@ -253,11 +251,11 @@ goes_both_ways _ mode = false
 
 abbrev pub not_back : ℕ → At → Design → Option ℕ → Option ℕ → Forest Form → Option Refused
 not_back k at d conversion own value =
-    broken_if (goes_both_ways at.revision (formal_at k d.formals).mode && other_types conversion (signal_type (value_as own at d value).tree)) 305 (first_place value)
+    broken_if (goes_both_ways at.revision (formal_at d k).mode && other_types conversion (signal_type (value_as own at d value).tree)) 305 (first_place value)
 
 abbrev pub by_conversion : ℕ → At → Design → Place → Forest Form → Forest Form → Outcome → Map → Map
 by_conversion k at d place choices value o m =
-    associated_with k (converted_type (formal_at k d.formals).mode (mark_of o.tree) (declaration_at d.scopes k).mark) at d place choices value o.tree
+    associated_with k (converted_type (formal_at d k).mode (mark_of o.tree) (declaration_at d.scopes k).mark) at d place choices value o.tree
     (lesser o.first (not_back k at d (mark_of o.tree) (declaration_at d.scopes k).mark value)) m
 
 abbrev pub associated : Front → List ℕ → At → Design → Place → Forest Form → Forest Form → Forest Form → Map → Map
@@ -283,7 +281,7 @@ with_trees ports at d n (more f text place parts next) m =
 
 -- a port without actual, where each element is one of a port
 abbrev pub lacks : Design → Map → ℕ → Bool
-lacks d m k = (formal_at k d.formals).is_needed && not (is_given k m)
+lacks d m k = (formal_at d k).is_needed && not (is_given k m)
 
 abbrev pub missing_port : At → Design → List ℕ → Map → Option Refused
 missing_port at d ports m = broken_if (m.is_known && list_any (lacks d m) ports) 310 at.label_place

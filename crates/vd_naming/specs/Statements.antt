@@ -1,20 +1,22 @@
 -- Labels, lists of names, and the parameters of loops and generates. (IEEE 1076, loop statements; generate statements; next and exit statements)
-use Rattle.std.specs.Prelude.{ℕ, ◌+◌, ◌==◌, Bool, not, List, ◌∷◌, Option, Some, None, if◌then◌else◌}
-use Rattle.std.specs.List.{list_any}
+use Rattle.std.specs.Prelude.{ℕ, ◌+◌, not, List, Option, Some, None}
 use Rattle.vd_bytes.specs.declared.places.Place.{Place}
 use Rattle.vd_declarations.specs.declared.classes.Class.{Class}
 use Rattle.vd_declarations.specs.declared.classes.Class.TheVariants as class
 use Rattle.vd_forest.specs.Forest.{Forest, nothing, more, tree_count, parts_of, text_of}
 use Rattle.vd_forms.specs.declared.form.Form.{Form}
 use Rattle.vd_forms.specs.declared.form.Form.TheVariants as form
-use Rattle.vd_naming.specs.Designs.{At, Design, Outcome}
-use Rattle.vd_naming.specs.Refusals.{lesser, broken_if}
-use Rattle.vd_naming.specs.Rows as row
-use Rattle.vd_naming.specs.Expressions.{resolved, unresolved, sight, gives, at_hand, expression, names_or}
+use Rattle.vd_name_states.specs.Noting.{with_loop, is_loop_label}
+use Rattle.vd_name_states.specs.declared.steps.Want.TheVariants as want
+use Rattle.vd_name_states.specs.Designs.{At, Design, Outcome, sight, gives}
+use Rattle.vd_name_states.specs.Entering.{numbered, declaration_of, entering}
+use Rattle.vd_name_states.specs.Members.{next_number}
+use Rattle.vd_name_states.specs.Refusals.{lesser, broken_if}
+use Rattle.vd_name_states.specs.Words.{declared_name}
+use Rattle.vd_naming.specs.Expressions.{resolved, unresolved, at_hand, expression, names_or}
 use Rattle.vd_naming.specs.Selected.{Meant, some_or}
 use Rattle.vd_naming.specs.Paths.{one_that, refused_path}
 use Rattle.vd_naming.specs.Units.{is_single}
-use Rattle.vd_naming.specs.Entering.{declared_name, numbered, declaration_of, entering, next_number}
 
 abbrev pub alone : Form → List ℕ → Place → Forest Form → Forest Form
 alone f text place parts = more f text place parts nothing
@@ -36,18 +38,11 @@ abbrev pub names : At → Design → Form → List ℕ → Place → Forest Form
 names at d f text place parts =
     gives (record at { next = at.next + tree_count parts }) d (more (resolved f None None) text place (numbered at.next (unresolved parts)) nothing) None
 
-abbrev pub with_loop : Bool → ℕ → Design → Design
-with_loop b k d = if b then record d { loops = k ∷ d.loops } else d
-
 -- a label is declared where it stands
 abbrev pub label : At → Design → Form → List ℕ → Place → Outcome
 label at d f text place =
     let e = entering at.region (declaration_of class.Label (record { name = text; place = place }) None) d in
     gives (record at { label_place = place }) (with_loop at.is_loop (next_number d) e.design) (more (resolved f (Some (next_number d)) None) text place nothing nothing) e.first
-
--- the label of a loop
-abbrev pub is_loop_label : Design → ℕ → Bool
-is_loop_label d k = list_any (λ j. j == k) d.loops
 
 abbrev pub label_named : Option ℕ → Meant → At → Design → Form → List ℕ → Place → Outcome
 label_named k m at d f text place = gives at d (more (resolved f k None) text place nothing nothing) (refused_path k m place)
@@ -66,7 +61,7 @@ declared_parameter c o =
     record o { design = e.design; first = lesser o.first e.first }
 
 abbrev pub parameter : Class → At → Design → Forest Form → Outcome
-parameter c at d tree = declared_parameter c (at_hand (expression row.AnyRange at d tree))
+parameter c at d tree = declared_parameter c (at_hand (expression want.AnyRange at d tree))
 
 -- one range is enough
 abbrev pub surplus : At → Design → Place → Forest Form → Outcome

@@ -1,7 +1,7 @@
 -- Design units: what stands round them, and what they declare. (IEEE 1076, design units and their analysis; entity declarations; architecture bodies; package
 -- declarations; package bodies; context declarations)
-use Rattle.std.specs.Prelude.{ℕ, suc, ◌+◌, ◌==◌, nat_lt, Bool, true, false, ◌||◌, not, List, [], ◌∷◌, ◌++◌, codes, Option, Some, None, if◌then◌else◌}
-use Rattle.std.specs.List.{filter, list_any}
+use Rattle.std.specs.Prelude.{ℕ, suc, ◌+◌, ◌==◌, nat_lt, Bool, true, false, ◌||◌, not, List, [], ◌∷◌, codes, Option, Some, None, if◌then◌else◌}
+use Rattle.std.specs.List.{filter}
 use Rattle.std.specs.Str.{bytes_eq}
 use Rattle.vd_bytes.specs.declared.answers.Refused.{Refused}
 use Rattle.vd_bytes.specs.declared.places.Place.{Place}
@@ -17,18 +17,19 @@ use Rattle.vd_resolved.specs.declared.node.Resolved.{Resolved}
 use Rattle.vd_sights.specs.Kinds.{kind_of}
 use Rattle.vd_sights.specs.Sights.{Sight}
 use Rattle.vd_ways.specs.Ways.{selected_name}
-use Rattle.vd_naming.specs.Designs.{At, Design, Outcome}
-use Rattle.vd_naming.specs.Refusals.{lesser, broken, broken_if}
-use Rattle.vd_naming.specs.Expressions.{resolved, sight, gives}
+use Rattle.vd_name_states.specs.declared.sorts.Sort.{Sort}
+use Rattle.vd_name_states.specs.declared.sorts.Sort.TheVariants as sort
+use Rattle.vd_name_states.specs.Designs.{At, Design, Outcome, sight, gives, with_scopes}
+use Rattle.vd_name_states.specs.Entering.{declaration_of, Entering, entering, entering_as, then_entering, nothing_entering}
+use Rattle.vd_name_states.specs.Members.{next_number, declared_in}
+use Rattle.vd_name_states.specs.Noting.{with_span, with_body, with_bodies, is_instance}
+use Rattle.vd_name_states.specs.Refusals.{lesser, broken, broken_if}
+use Rattle.vd_naming.specs.Expressions.{resolved}
 use Rattle.vd_naming.specs.Selected.{Meant, Breaks}
-use Rattle.vd_naming.specs.Paths.{one_that, path_meant, path_outside, prefix_pieces, named_path, refused_path, rule_of, is_package, is_context, is_entity}
-use Rattle.vd_naming.specs.Entering.{declaration_of, Entering, entering, entering_as, then_entering, nothing_entering, next_number, with_scopes, declared_in, is_generic, is_port, with_span, with_body}
+use Rattle.vd_naming.specs.Paths.{one_that, path_meant, path_outside, prefix_pieces, named_path, refused_path, rule_of, is_package, is_context}
 use Rattle.vd_naming.specs.Endings.{Ended, finished, word_of, declares, closed}
 
 -- ---- units of `work` by their names
-
-abbrev pub any_class : Class → Bool
-any_class c = true
 
 abbrev pub is_named : Design → List ℕ → ℕ → Bool
 is_named d name k = bytes_eq (declaration_at d.scopes k).name name
@@ -38,17 +39,11 @@ first_of [] = None
 first_of (k ∷ ks) = Some k
 
 -- what a region declares under a name
-abbrev pub found_in : ℕ → (Class → Bool) → List ℕ → Design → Option ℕ
-found_in region test name d = first_of (filter (is_named d name) (declared_in region test d))
+abbrev pub found_in : ℕ → Sort → List ℕ → Design → Option ℕ
+found_in region s name d = first_of (filter (is_named d name) (declared_in region s d))
 
-abbrev pub unit_named : (Class → Bool) → List ℕ → Design → Option ℕ
-unit_named test name d = found_in REGION_OF_WORK test name d
-
--- a package that is written, with generics or without
-abbrev pub has_package_body : Class → Bool
-has_package_body class.Package = true
-has_package_body class.UninstantiatedPackage = true
-has_package_body _ = false
+abbrev pub unit_named : Sort → List ℕ → Design → Option ℕ
+unit_named s name d = found_in REGION_OF_WORK s name d
 
 -- ---- the primary unit of an architecture or a package body
 
@@ -62,8 +57,8 @@ main_of (more form.DesignUnit text place parts next) = main_of parts
 main_of (more f text place parts next) = more f text place parts next
 
 abbrev pub primary_by : Form → Forest Form → Design → Option ℕ
-primary_by form.ArchitectureBody parts d = unit_named is_entity (text_of (next_of parts)) d
-primary_by form.PackageBody parts d = unit_named has_package_body (text_of parts) d
+primary_by form.ArchitectureBody parts d = unit_named sort.Entity (text_of (next_of parts)) d
+primary_by form.PackageBody parts d = unit_named sort.WrittenPackage (text_of parts) d
 primary_by _ parts d = None
 
 abbrev pub primary_of : Forest Form → Design → Option ℕ
@@ -118,7 +113,7 @@ abbrev pub entity_ends : Ended → Outcome
 entity_ends x =
     declares x x.inner.tree
     (entering_unit
-    (record (unit_of class.Entity x) { parameters = declared_in x.inside.region is_port x.inner.design; generics = declared_in x.inside.region is_generic x.inner.design })
+    (record (unit_of class.Entity x) { parameters = declared_in x.inside.region sort.Port x.inner.design; generics = declared_in x.inside.region sort.Generic x.inner.design })
     (closed x.inside.region x.inner.design))
 
 -- a unit that isn't analysed, or one of another class
@@ -129,8 +124,8 @@ no_unit (Some k) = Breaks 307
 -- the name of an entity in front of the architecture
 abbrev pub entity_word : At → Design → Form → List ℕ → Place → Outcome
 entity_word at d f text place =
-    let k = unit_named is_entity text d in
-    gives (record at { named = k }) d (more (resolved f k None) text place nothing nothing) (refused_path k (no_unit (unit_named any_class text d)) place)
+    let k = unit_named sort.Entity text d in
+    gives (record at { named = k }) d (more (resolved f k None) text place nothing nothing) (refused_path k (no_unit (unit_named sort.Any text d)) place)
 
 abbrev pub entering_architecture : Option ℕ → Declaration → Design → Entering
 entering_architecture None new d = record (nothing_entering d) { first = refused_word new }
@@ -140,7 +135,7 @@ entering_architecture (Some inside) new d = entering_unit_in (region_of_architec
 abbrev pub architecture_ends : Ended → Outcome
 architecture_ends x =
     declares x x.inner.tree
-    (entering_architecture (region_inside x.inner.design (unit_named is_entity (text_of (next_of x.parts)) x.inner.design))
+    (entering_architecture (region_inside x.inner.design (unit_named sort.Entity (text_of (next_of x.parts)) x.inner.design))
     (declaration_of class.Architecture (word_of x) None) x.inner.design)
 
 -- ---- packages, whose number stands at their names too
@@ -159,7 +154,7 @@ from_number n ks = filter (λ k. not (nat_lt k n)) ks
 
 abbrev pub declared_besides : List ℕ → ℕ → ℕ → Design → List ℕ
 declared_besides [] region first d = []
-declared_besides (k ∷ ks) region first d = from_number first (declared_in region any_class d)
+declared_besides (k ∷ ks) region first d = from_number first (declared_in region sort.Any d)
 
 abbrev pub package_with : List ℕ → Ended → Declaration
 package_with generics x =
@@ -176,27 +171,17 @@ has_body_in name nothing = false
 has_body_in name (more f text place parts next) = is_body_of name (main_of parts) || has_body_in name next
 
 -- Instances of functions that a package declares have their bodies where that of the package begins, or at its end where it has none.
-abbrev pub is_plain_function : Class → Bool
-is_plain_function class.Function = true
-is_plain_function _ = false
-
-abbrev pub with_bodies : List ℕ → Design → Design
-with_bodies ks d = record d { bodies = ks ++ d.bodies }
-
-abbrev pub is_instance : Design → ℕ → Bool
-is_instance d k = list_any (λ j. j == k) d.instances
-
 abbrev pub instances_in : ℕ → Design → List ℕ
-instances_in region d = filter (is_instance d) (declared_in region is_plain_function d)
+instances_in region d = filter (is_instance d) (declared_in region sort.PlainFunction d)
 
-abbrev pub with_instances_at_end : At → List ℕ → ℕ → Design → Design
-with_instances_at_end at name region d = if has_body_in name at.whole then d else with_bodies (instances_in region d) d
+abbrev pub with_instances_at_end : Forest Form → List ℕ → ℕ → Design → Design
+with_instances_at_end whole name region d = if has_body_in name whole then d else with_bodies (instances_in region d) d
 
-abbrev pub package_ends : Ended → Outcome
-package_ends x =
-    let o = declares x (with_name (next_number x.inner.design) x.inner.tree) (entering_unit (package_with (declared_in x.inside.region is_generic x.inner.design) x) (closed x.inside.region x.inner.design)) in
+abbrev pub package_ends : Forest Form → Ended → Outcome
+package_ends whole x =
+    let o = declares x (with_name (next_number x.inner.design) x.inner.tree) (entering_unit (package_with (declared_in x.inside.region sort.Generic x.inner.design) x) (closed x.inside.region x.inner.design)) in
     record o {
-      design = with_span (next_number x.inner.design) x.inside.header x.inside.region (with_instances_at_end x.outer x.inner.at.word x.inside.region o.design);
+      design = with_span (next_number x.inner.design) x.inside.header x.inside.region (with_instances_at_end whole x.inner.at.word x.inside.region o.design);
     }
 
 abbrev pub body_of_package : Option ℕ → Ended → Outcome
@@ -204,7 +189,7 @@ body_of_package None x = finished x None None x.inner.tree x.inner.design None
 body_of_package (Some k) x = finished x (Some k) None (with_name k x.inner.tree) (with_body k x.inner.design) None
 
 abbrev pub package_body_ends : Ended → Outcome
-package_body_ends x = body_of_package (unit_named has_package_body (text_of x.parts) x.inner.design) x
+package_body_ends x = body_of_package (unit_named sort.WrittenPackage (text_of x.parts) x.inner.design) x
 
 -- ---- contexts
 
@@ -290,7 +275,7 @@ entering_libraries region (k ∷ ks) d =
 abbrev pub clauses_again : ℕ → Option ℕ → Design → Design
 clauses_again region None d = d
 clauses_again region (Some context) d =
-    let e = (entering_libraries region (declared_in context any_class d) d).design in
+    let e = (entering_libraries region (declared_in context sort.Any d) d).design in
     with_scopes e (with_clauses region (region_at d.scopes context).uses e.scopes)
 
 abbrev pub referred : Option ℕ → Meant → At → Design → Place → Forest Form → Outcome

@@ -12,11 +12,11 @@ use Rattle.vd_forms.specs.declared.form.Form.TheVariants as form
 use Rattle.vd_regions.specs.Scopes.{declaration_at}
 use Rattle.vd_resolved.specs.declared.node.Resolved.{Resolved}
 use Rattle.vd_sights.specs.Types.{is_record}
-use Rattle.vd_naming.specs.Designs.{At, Design, Outcome}
-use Rattle.vd_naming.specs.Refusals.{lesser, broken, broken_if}
-use Rattle.vd_naming.specs.Expressions.{resolved, unresolved, sight, gives, type_declared}
+use Rattle.vd_name_states.specs.Designs.{At, Design, Outcome, sight, gives}
+use Rattle.vd_name_states.specs.Entering.{declaration_of, entering}
+use Rattle.vd_name_states.specs.Refusals.{lesser, broken, broken_if}
+use Rattle.vd_naming.specs.Expressions.{resolved, unresolved, type_declared}
 use Rattle.vd_naming.specs.Paths.{named_as, is_some}
-use Rattle.vd_naming.specs.Entering.{declaration_of, entering}
 use Rattle.vd_naming.specs.Endings.{Ended, word_of, declares}
 use Rattle.vd_naming.specs.Functions.{first_that}
 use Rattle.vd_naming.specs.Units.{is_named}

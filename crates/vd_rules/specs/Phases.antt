@@ -8,7 +8,7 @@ use Rattle.vd_forest.specs.Forest.{Forest}
 use Rattle.vd_forms.specs.declared.form.Form.{Form}
 use Rattle.vd_least.specs.Least.{lesser, least_of}
 use Rattle.vd_finding.specs.Finding.{or_else}
-use Rattle.vd_naming.specs.Designs.{Outcome}
+use Rattle.vd_name_states.specs.Designs.{Outcome}
 use Rattle.vd_naming.specs.Naming.{names_of}
 use Rattle.vd_naming.specs.Settled.{resolved_tree}
 use Rattle.vd_resolved.specs.Trees.{ResolvedTree}

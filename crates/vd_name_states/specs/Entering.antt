@@ -1,36 +1,25 @@
 -- Declarations as they are entered: at their ends. (IEEE 1076, declarations; scope of declarations)
-use Rattle.std.specs.Prelude.{ℕ, suc, ◌==◌, Bool, true, false, ◌&&◌, List, [], ◌∷◌, ◌++◌, length, Option, Some, None, if◌then◌else◌}
-use Rattle.std.specs.List.{list_any}
+use Rattle.std.specs.Prelude.{ℕ, suc, false, List, [], ◌∷◌, ◌++◌, Option, Some, None}
 use Rattle.vd_bytes.specs.declared.answers.Refused.{Refused}
 use Rattle.vd_bytes.specs.declared.places.Place.{Place}
 use Rattle.vd_declarations.specs.declared.classes.Class.{Class}
-use Rattle.vd_declarations.specs.declared.classes.Class.TheVariants as class
 use Rattle.vd_declarations.specs.declared.classes.Made.TheVariants as made
 use Rattle.vd_declarations.specs.declared.declarations.Declaration.{Declaration}
 use Rattle.vd_forest.specs.Forest.{Forest, nothing, more, parts_of, skipped}
 use Rattle.vd_forms.specs.declared.form.Form.{Form}
-use Rattle.vd_forms.specs.declared.form.Form.TheVariants as form
 use Rattle.vd_given.specs.Entries.{with_entry}
 use Rattle.vd_regions.specs.Homographs.{homograph}
 use Rattle.vd_regions.specs.Scopes.{Scopes}
-use Rattle.vd_regions.specs.declared.entries.Entered.{Entered}
 use Rattle.vd_resolved.specs.declared.node.Resolved.{Resolved}
-use Rattle.vd_ways.specs.Ways.{symbol_name}
-use Rattle.vd_sights.specs.Types.{letter_name}
-use Rattle.vd_naming.specs.Designs.{Span, Design}
-use Rattle.vd_naming.specs.Refusals.{lesser, broken}
+use Rattle.vd_name_states.specs.Designs.{Design, with_scopes}
+use Rattle.vd_name_states.specs.Refusals.{lesser, broken}
+use Rattle.vd_name_states.specs.Words.{declared_name}
 
 -- ---- names that are declared, each with its place
 
 pub record Word : Type 0 where
   pub name : List ℕ
   pub place : Place
-
--- an identifier, a character literal with its apostrophes, an operator symbol with its quotation marks in lower case
-abbrev pub declared_name : Form → List ℕ → List ℕ
-declared_name form.Letter text = letter_name text
-declared_name form.Quoted text = symbol_name text
-declared_name _ text = text
 
 abbrev pub words_of : Forest Form → List Word
 words_of nothing = []
@@ -61,9 +50,6 @@ abbrev pub refused_homograph : ℕ → Place → Option ℕ → Option Refused
 refused_homograph rule place None = None
 refused_homograph rule place (Some k) = broken rule place
 
-abbrev pub with_scopes : Design → Scopes → Design
-with_scopes d s = record d { scopes = s }
-
 -- it stands behind the others; where it may not stand beside one of its region, the rule is broken
 abbrev pub entering_as : ℕ → ℕ → Declaration → Design → Entering
 entering_as rule region new d =
@@ -84,64 +70,9 @@ abbrev pub entering_words : ℕ → Class → Option ℕ → List Word → Desig
 entering_words region c mark [] d = nothing_entering d
 entering_words region c mark (w ∷ ws) d = then_entering (entering region (declaration_of c w mark) d) (entering_words region c mark ws)
 
--- the number that the next declaration gets
-abbrev pub next_number : Design → ℕ
-next_number d = length d.scopes.entered
-
-abbrev pub next_region : Design → ℕ
-next_region d = length d.scopes.regions
-
--- ---- what stands in a region
-
--- the numbers of what stands in a region and passes a test, from a number on
-abbrev pub numbers_in : ℕ → (Class → Bool) → ℕ → List Entered → List ℕ
-numbers_in region test k [] = []
-numbers_in region test k (e ∷ es) =
-    if (e.region == region) && test e.declaration.class then k ∷ numbers_in region test (suc k) es else numbers_in region test (suc k) es
-
-abbrev pub declared_in : ℕ → (Class → Bool) → Design → List ℕ
-declared_in region test d = numbers_in region test 0 d.scopes.entered
-
-abbrev pub is_generic : Class → Bool
-is_generic class.GenericConstant = true
-is_generic class.GenericType = true
-is_generic class.GenericFunction = true
-is_generic _ = false
-
-abbrev pub is_parameter : Class → Bool
-is_parameter class.Parameter = true
-is_parameter _ = false
-
-abbrev pub is_port : Class → Bool
-is_port class.Port = true
-is_port _ = false
-
-abbrev pub is_record_element : Class → Bool
-is_record_element class.RecordElement = true
-is_record_element _ = false
-
 -- ---- regions
 
 -- one region more, which continues another
 abbrev pub with_part : Scopes → ℕ → Option ℕ → Scopes
 with_part s outer continues =
     record s { regions = s.regions ++ record { outer = outer; continues = continues; closed = false; uses = [] } ∷ [] }
-
--- ---- spans
-
-abbrev pub no_span : Span
-no_span = record { owner = 0; first = 0; first_region = 0; end_region = 0 }
-
-abbrev pub span_of : ℕ → List Span → Span
-span_of k [] = no_span
-span_of k (x ∷ xs) = if x.owner == k then x else span_of k xs
-
-abbrev pub with_span : ℕ → ℕ → ℕ → Design → Design
-with_span owner first first_region d =
-    record d { spans = record { owner = owner; first = first; first_region = first_region; end_region = next_region d } ∷ d.spans }
-
-abbrev pub with_body : ℕ → Design → Design
-with_body k d = record d { bodies = k ∷ d.bodies }
-
-abbrev pub has_body : Design → ℕ → Bool
-has_body d k = list_any (λ j. j == k) d.bodies

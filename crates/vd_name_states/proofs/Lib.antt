@@ -1,0 +1,4 @@
+pub mod MemberLemmas
+pub mod NoteLemmas
+pub mod RoomLemmas
+pub mod GrowthLemmas
