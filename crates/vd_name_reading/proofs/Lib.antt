@@ -1,3 +1,3 @@
 pub mod LastLemmas
-pub mod LeavingLemmas
 pub mod ReadLemmas
+pub mod WholeLemmas

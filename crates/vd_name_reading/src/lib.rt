@@ -2,13 +2,13 @@
 #![tactic(auto)]
 
 mod edges;
-mod leaving;
+pub mod expressions;
 pub mod marks;
 pub mod reading;
 pub mod wants;
 
 pub use edges::edge_of_no_signal;
-pub use leaving::unresolved;
+pub use expressions::{mark_of, read_as, read_as_mark, refused_names};
 pub use marks::mark_read_beside;
 pub use reading::{Read, read_beside};
 pub use wants::{can_select, fits_wanted, is_absent, mark_declared, wanted_at};

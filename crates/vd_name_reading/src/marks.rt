@@ -11,7 +11,6 @@ ghost use Rattle.vd_naming.specs.Expressions.{mark_states, no_mark};
 ghost use Rattle.vd_sights.specs.Sights.{sight_from};
 ghost use Rattle.vd_name_reading.specs.Reads.{IsRead, mark_read_beside};
 
-use crate::leaving::unresolved;
 use crate::reading::Read;
 use std::alloc::{AllocError, Global};
 use vd_bytes::{Place, Refused};
@@ -20,6 +19,7 @@ use vd_forest::{Cursor, Store};
 use vd_forms::Form;
 use vd_given::numbers::BOOLEAN;
 use vd_least::lesser;
+use vd_name_paths::unresolved;
 use vd_name_states::{At, Names};
 use vd_overloads::Env;
 use vd_readings::{Found, read};

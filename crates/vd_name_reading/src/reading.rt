@@ -6,12 +6,12 @@ ghost use Rattle.vd_forest.specs.Store.{Extends};
 ghost use Rattle.vd_name_reading.specs.Reads.{IsRead, read_beside};
 
 use crate::edges::edge_of_no_signal;
-use crate::leaving::unresolved;
 use std::alloc::{AllocError, Global};
 use vd_bytes::{Refusal, Refused};
 use vd_forest::{Cursor, Store};
 use vd_forms::Form;
 use vd_least::lesser;
+use vd_name_paths::unresolved;
 use vd_name_states::{At, Names};
 use vd_overloads::{Env, Wanted, resolve_expr};
 use vd_resolved::Resolved;
