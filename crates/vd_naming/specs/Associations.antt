@@ -2,16 +2,15 @@
 use Rattle.std.specs.Prelude.{ℕ, ◌==◌, Bool, true, false, ◌&&◌, not, List, [], ◌∷◌, drop, Option, Some, None, if◌then◌else◌}
 use Rattle.std.specs.List.{list_all, list_any}
 use Rattle.vd_bytes.specs.declared.places.Place.{Place}
-use Rattle.vd_forest.specs.Forest.{Forest, nothing, more, parts_of, next_of}
+use Rattle.vd_forest.specs.Forest.{Forest, nothing, more, parts_of, next_of, with_next}
 use Rattle.vd_forms.specs.declared.form.Form.{Form}
 use Rattle.vd_forms.specs.declared.form.Form.TheVariants as form
-use Rattle.vd_regions.specs.Scopes.{declaration_at}
-use Rattle.vd_sights.specs.Lists.{simple_name, is_name}
+use Rattle.vd_sights.specs.Lists.{simple_name}
 use Rattle.vd_ways.specs.Ways.{symbol_name}
 use Rattle.vd_name_states.specs.Designs.{Design}
+use Rattle.vd_name_states.specs.declared.sorts.Sort.TheVariants as sort
 use Rattle.vd_naming.specs.Paths.{is_some}
-use Rattle.vd_naming.specs.Functions.{first_that}
-use Rattle.vd_naming.specs.Units.{first_of}
+use Rattle.vd_naming.specs.Units.{first_of, found_inside, region_inside}
 use Rattle.vd_naming.specs.Statements.{alone}
 
 -- An element of a map: where it stands, the generic that it is for, and what stands there for it. There is no such generic where the map's has none of the
@@ -39,13 +38,15 @@ formal_name parts = only_designator (parts_of parts)
 
 -- ---- the generic of an element: by its name, or by its place, which is in front of all names
 
-abbrev pub generic_named : Design → List ℕ → Option (List ℕ) → Option ℕ
-generic_named d generics name = first_that (λ g. is_name (declaration_at d.scopes g).name name) generics
+-- of what is instantiated, which has them in its region
+abbrev pub generic_named : Design → ℕ → Option (List ℕ) → Option ℕ
+generic_named d n None = None
+generic_named d n (Some name) = found_inside (region_inside d (Some n)) sort.Generic name d
 
-abbrev pub generic_for : Design → (all left : List ℕ) → Form → Forest Form → Option ℕ
-generic_for d all left form.Association parts = generic_named d all (formal_name parts)
-generic_for d all left form.OthersAssociation parts = None
-generic_for d all left _ parts = first_of left
+abbrev pub generic_for : Design → ℕ → List ℕ → Form → Forest Form → Option ℕ
+generic_for d n left form.Association parts = generic_named d n (formal_name parts)
+generic_for d n left form.OthersAssociation parts = None
+generic_for d n left _ parts = first_of left
 
 -- those that are left for the places behind
 abbrev pub left_behind : Form → List ℕ → List ℕ
@@ -67,23 +68,23 @@ with_given (Some g) given = g ∷ given
 -- ---- all elements, where some generics are left for places, and some have an element already
 
 abbrev pub actual_in : Form → List ℕ → Place → Forest Form → Forest Form
-actual_in form.Association text place parts = next_of parts
-actual_in form.OthersAssociation text place parts = parts
+actual_in form.Association text place parts = with_next (next_of parts) nothing
+actual_in form.OthersAssociation text place parts = with_next parts nothing
 actual_in f text place parts = alone f text place parts
 
-abbrev pub generic_at : Design → (all left given : List ℕ) → Form → Forest Form → Option ℕ
-generic_at d all left given f parts = once given (generic_for d all left f parts)
+abbrev pub generic_at : Design → ℕ → (left given : List ℕ) → Form → Forest Form → Option ℕ
+generic_at d n left given f parts = once given (generic_for d n left f parts)
 
-abbrev pub elements : Design → (all left given : List ℕ) → Forest Form → List Element
-elements d all left given nothing = []
-elements d all left given (more f text place parts next) =
+abbrev pub elements : Design → ℕ → (left given : List ℕ) → Forest Form → List Element
+elements d n left given nothing = []
+elements d n left given (more f text place parts next) =
     record {
       place = place;
-      generic = generic_at d all left given f parts;
-      is_known = is_some (generic_for d all left f parts);
+      generic = generic_at d n left given f parts;
+      is_known = is_some (generic_for d n left f parts);
       actual = actual_in f text place parts;
     }
-    ∷ elements d all (left_behind f left) (with_given (generic_at d all left given f parts) given) next
+    ∷ elements d n (left_behind f left) (with_given (generic_at d n left given f parts) given) next
 
 -- ---- what they tell of a generic
 

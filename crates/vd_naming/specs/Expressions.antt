@@ -118,7 +118,7 @@ with_node node place o p = record o { tree = more node [] place (two_trees o p) 
 abbrev pub bounds_as : At → Design → ℕ → Forest Form → Outcome
 bounds_as at d t nothing = gives at d nothing None
 bounds_as at d t (more f text place parts next) =
-    with_node (resolved f None (Some t)) place (read_as at d (wanted.OfType t) (alone parts)) (read_as at d (wanted.OfType t) (next_of parts))
+    with_node (resolved f None (Some t)) place (read_as at d (wanted.OfType t) (alone parts)) (read_as at d (wanted.OfType t) (alone (next_of parts)))
 
 abbrev pub bounds_if : Bool → At → Design → ℕ → Place → Forest Form → Outcome
 bounds_if true at d t place bounds = bounds_as at d t bounds

@@ -115,7 +115,7 @@ map_between generics es at d f text place parts =
 abbrev pub map_of : Option ℕ → At → Design → Form → List ℕ → Place → Forest Form → Outcome
 map_of None at d f text place parts = gives (record at { actuals = [] }) d (unresolved (alone f text place parts)) None
 map_of (Some n) at d f text place parts =
-    map_between (declaration_at d.scopes n).generics (elements d (declaration_at d.scopes n).generics (declaration_at d.scopes n).generics [] parts)
+    map_between (declaration_at d.scopes n).generics (elements d n (declaration_at d.scopes n).generics [] parts)
     at d f text place parts
 
 abbrev pub generic_map : At → Design → Form → List ℕ → Place → Forest Form → Outcome

@@ -6,7 +6,7 @@ use Rattle.std.specs.List.{list_any}
 use Rattle.std.specs.Str.{bytes_eq}
 use Rattle.vd_bytes.specs.declared.answers.Refused.{Refused}
 use Rattle.vd_bytes.specs.declared.places.Place.{Place}
-use Rattle.vd_forest.specs.Forest.{Forest, nothing, more, joined, parts_of, next_of, text_of}
+use Rattle.vd_forest.specs.Forest.{Forest, nothing, more, joined, parts_of, next_of, text_of, with_next}
 use Rattle.vd_forms.specs.declared.form.Form.{Form}
 use Rattle.vd_forms.specs.declared.form.Form.TheVariants as form
 use Rattle.vd_forms.specs.Forms.{is_among, expressions, same_form}
@@ -21,7 +21,7 @@ use Rattle.vd_given.specs.declared.numbers.TheConstants.{BOOLEAN}
 use Rattle.vd_overloads.specs.Environment.{scene_at}
 use Rattle.vd_overloads.specs.Interpretations.{Scene, alone, first_place, interpretations, refusal}
 use Rattle.vd_overloads.specs.declared.wanted.Wanted.TheVariants as wanted
-use Rattle.vd_sights.specs.Lists.{simple_name, is_name}
+use Rattle.vd_sights.specs.Lists.{simple_name}
 use Rattle.vd_sights.specs.Sights.{Sight}
 use Rattle.vd_ways.specs.Ways.{ways, ends}
 use Rattle.vd_name_states.specs.Noting.{formal_at}
@@ -32,7 +32,7 @@ use Rattle.vd_naming.specs.Pieces.{refused_pieces}
 use Rattle.vd_naming.specs.Expressions.{resolved, unresolved, only_reading, refused_unless_one, mark_of, read_as, refused_names}
 use Rattle.vd_naming.specs.Selected.{Breaks}
 use Rattle.vd_naming.specs.Paths.{named_as, refused_path, is_entity, is_some}
-use Rattle.vd_naming.specs.Units.{main_of, found_in, region_inside, region_of_architectures}
+use Rattle.vd_naming.specs.Units.{main_of, found_in, found_inside, region_inside, region_of_architectures}
 
 -- ---- the entity and its architecture
 
@@ -90,9 +90,10 @@ pub data Front : Type 0 where
   Converted : (port : Option ℕ) → Front
   OtherFront : Front
 
-abbrev pub port_named : Design → List ℕ → Option (List ℕ) → Option ℕ
-port_named d [] name = None
-port_named d (k ∷ ks) name = if is_name (declaration_at d.scopes k).name name then Some k else port_named d ks name
+-- the ports of an entity stand in its region
+abbrev pub port_named : Design → ℕ → Option (List ℕ) → Option ℕ
+port_named d entity None = None
+port_named d entity (Some name) = found_inside (region_inside d (Some entity)) sort.Port name d
 
 abbrev pub name_alone : Forest Form → Option (List ℕ)
 name_alone nothing = None
@@ -107,25 +108,22 @@ last_argument (more _ text place parts nothing) = None
 last_argument (more f text place parts (more f' text' place' parts' next)) = last_argument (more f' text' place' parts' next)
 
 -- a port with anything behind it is no whole port
-abbrev pub is_a_port : Design → List ℕ → List ℕ → Bool
-is_a_port d ports text = list_any (λ k. bytes_eq (declaration_at d.scopes k).name text) ports
+abbrev pub front_of_name : Design → ℕ → Forest Form → Front
+front_of_name d entity nothing = OtherFront
+front_of_name d entity (more f text place parts nothing) = OfPort (port_named d entity (Some text))
+front_of_name d entity (more f text place parts (more f' text' place' parts' next)) =
+    if is_some (port_named d entity (Some text)) then OtherFront else Converted (port_named d entity (last_argument (more f' text' place' parts' next)))
 
-abbrev pub front_of_name : Design → List ℕ → Forest Form → Front
-front_of_name d ports nothing = OtherFront
-front_of_name d ports (more f text place parts nothing) = OfPort (port_named d ports (Some text))
-front_of_name d ports (more f text place parts (more f' text' place' parts' next)) =
-    if is_a_port d ports text then OtherFront else Converted (port_named d ports (last_argument (more f' text' place' parts' next)))
-
-abbrev pub front : Design → List ℕ → Forest Form → Front
-front d ports (more form.Name text place parts nothing) = front_of_name d ports parts
-front d ports _ = OtherFront
+abbrev pub front : Design → ℕ → Forest Form → Front
+front d entity (more form.Name text place parts nothing) = front_of_name d entity parts
+front d entity _ = OtherFront
 
 -- A conversion of a port is an expression in which the ports are looked up first.
-abbrev pub port_or_visible : Design → List ℕ → Sight → List ℕ → List ℕ
-port_or_visible d ports s name = elim (port_named d ports (Some name)) [ None ↦ s.visible name | Some k ↦ k ∷ [] ]
+abbrev pub port_or_visible : Design → ℕ → Sight → List ℕ → List ℕ
+port_or_visible d entity s name = elim (port_named d entity (Some name)) [ None ↦ s.visible name | Some k ↦ k ∷ [] ]
 
-abbrev pub sight_of_ports : Design → List ℕ → Sight → Sight
-sight_of_ports d ports s = record s { visible = port_or_visible d ports s }
+abbrev pub sight_of_ports : Design → ℕ → Sight → Sight
+sight_of_ports d entity s = record s { visible = port_or_visible d entity s }
 
 abbrev pub rules_of : Sight → Rules
 rules_of s = record { ways = ways s; ends = ends s }
@@ -135,9 +133,9 @@ converted_refusal s d region tree all scene =
     lesser (refused_pieces s d region tree)
     (refused_unless_one (Some (refusal (first_refusal s (want.Value BOOLEAN) tree) (scene.unknown tree) (first_place tree) all)) all)
 
-abbrev pub converted : List ℕ → At → Design → Forest Form → Outcome
-converted ports at d tree =
-    let s = sight_of_ports d ports (sight at d) in
+abbrev pub converted : ℕ → At → Design → Forest Form → Outcome
+converted entity at d tree =
+    let s = sight_of_ports d entity (sight at d) in
     let all = interpretations (rules_of s) (scene_at (standpoint at d)) wanted.Free (alone tree) in
     gives at d (only_reading tree all) (converted_refusal s d at.region tree all (scene_at (standpoint at d)))
 
@@ -258,26 +256,27 @@ by_conversion k at d place choices value o m =
     associated_with k (converted_type (formal_at d k).mode (mark_of o.tree) (declaration_at d.scopes k).mark) at d place choices value o.tree
     (lesser o.first (not_back k at d (mark_of o.tree) (declaration_at d.scopes k).mark value)) m
 
-abbrev pub associated : Front → List ℕ → At → Design → Place → Forest Form → Forest Form → Forest Form → Map → Map
-associated (OfPort (Some k)) ports at d place choices value tree m =
+abbrev pub associated : Front → ℕ → At → Design → Place → Forest Form → Forest Form → Forest Form → Map → Map
+associated (OfPort (Some k)) entity at d place choices value tree m =
     associated_with k (declaration_at d.scopes k).mark at d place choices value (named_front k (parts_of choices)) None m
-associated (Converted (Some k)) ports at d place choices value tree m =
-    by_conversion k at d place choices value (converted ports at d (parts_of choices)) m
-associated _ ports at d place choices value tree m = with_other at d place tree m
+associated (Converted (Some k)) entity at d place choices value tree m =
+    by_conversion k at d place choices value (converted entity at d (with_next (parts_of choices) nothing)) m
+associated _ entity at d place choices value tree m = with_other at d place tree m
 
 abbrev pub named_from_here : Map → Map
 named_from_here m = record m { is_named = true }
 
-abbrev pub with_tree : List ℕ → At → Design → ℕ → Form → Place → Forest Form → Forest Form → Map → Map
-with_tree ports at d n form.Association place parts tree m =
-    associated (front d ports (parts_of parts)) ports at d place parts (next_of parts) tree (named_from_here m)
-with_tree ports at d n form.OthersAssociation place parts tree m = with_other at d place tree m
-with_tree ports at d n f place parts tree m = placed (place_of_next m.is_named n ports) at d f place tree m
+abbrev pub with_tree : ℕ → At → Design → ℕ → Form → Place → Forest Form → Forest Form → Map → Map
+with_tree entity at d n form.Association place parts tree m =
+    associated (front d entity (parts_of parts)) entity at d place parts (with_next (next_of parts) nothing) tree (named_from_here m)
+with_tree entity at d n form.OthersAssociation place parts tree m = with_other at d place tree m
+with_tree entity at d n f place parts tree m =
+    placed (place_of_next m.is_named n (declaration_at d.scopes entity).parameters) at d f place tree m
 
-abbrev pub with_trees : List ℕ → At → Design → ℕ → Forest Form → Map → Map
-with_trees ports at d n nothing m = m
-with_trees ports at d n (more f text place parts next) m =
-    with_trees ports at d (suc n) next (with_tree ports at d n f place parts (more f text place parts nothing) m)
+abbrev pub with_trees : ℕ → At → Design → ℕ → Forest Form → Map → Map
+with_trees entity at d n nothing m = m
+with_trees entity at d n (more f text place parts next) m =
+    with_trees entity at d (suc n) next (with_tree entity at d n f place parts (more f text place parts nothing) m)
 
 -- a port without actual, where each element is one of a port
 abbrev pub lacks : Design → Map → ℕ → Bool
@@ -298,7 +297,7 @@ ports_of_entity d (Some k) = (declaration_at d.scopes k).parameters
 abbrev pub map_of_known : Option ℕ → At → Design → Form → List ℕ → Place → Forest Form → Outcome
 map_of_known None at d f text place parts = gives at d (unresolved (more f text place parts nothing)) None
 map_of_known (Some k) at d f text place parts =
-    map_outcome at d f text place (declaration_at d.scopes k).parameters (with_trees (declaration_at d.scopes k).parameters at d 0 parts no_map)
+    map_outcome at d f text place (declaration_at d.scopes k).parameters (with_trees k at d 0 parts no_map)
 
 abbrev pub port_map : At → Design → Form → List ℕ → Place → Forest Form → Outcome
 port_map at d f text place parts = map_of_known at.named at d f text place parts

@@ -42,6 +42,10 @@ first_of (k ∷ ks) = Some k
 abbrev pub found_in : ℕ → Sort → List ℕ → Design → Option ℕ
 found_in region s name d = first_of (filter (is_named d name) (declared_in region s d))
 
+abbrev pub found_inside : Option ℕ → Sort → List ℕ → Design → Option ℕ
+found_inside None s name d = None
+found_inside (Some region) s name d = found_in region s name d
+
 abbrev pub unit_named : Sort → List ℕ → Design → Option ℕ
 unit_named s name d = found_in REGION_OF_WORK s name d
 

@@ -15,11 +15,11 @@ use Rattle.vd_sights.specs.Types.{is_record}
 use Rattle.vd_name_states.specs.Designs.{At, Design, Outcome, sight, gives}
 use Rattle.vd_name_states.specs.Entering.{declaration_of, entering}
 use Rattle.vd_name_states.specs.Refusals.{lesser, broken, broken_if}
+use Rattle.vd_name_states.specs.declared.sorts.Sort.TheVariants as sort
 use Rattle.vd_naming.specs.Expressions.{resolved, unresolved, type_declared}
 use Rattle.vd_naming.specs.Paths.{named_as, is_some}
 use Rattle.vd_naming.specs.Endings.{Ended, word_of, declares}
-use Rattle.vd_naming.specs.Functions.{first_that}
-use Rattle.vd_naming.specs.Units.{is_named}
+use Rattle.vd_naming.specs.Units.{found_inside, region_inside}
 use Rattle.std.specs.Option.{unwrap_or}
 use Rattle.vd_naming.specs.Statements.{alone}
 
@@ -62,7 +62,7 @@ elements_of d None = []
 elements_of d (Some t) = (declaration_at d.scopes t).parameters
 
 abbrev pub element_named : Design → Option ℕ → List ℕ → Option ℕ
-element_named d t name = first_that (is_named d name) (elements_of d t)
+element_named d t name = found_inside (region_inside d t) sort.Element name d
 
 -- of a record type that is known
 abbrev pub missing_element : Option ℕ → Option ℕ → Place → Option Refused

@@ -114,15 +114,16 @@ pub(crate) fn end_of<G: Copy + Drop, A: Drop>(
 /// waits in `frames`.
 #[tactic(auto, using(vd_forest::proofs::StoreLemmas::extends_trans))]
 pub(crate) fn into_tree<
+    'a,
     F: Copy + Drop,
     G: Copy + Drop,
     A: Drop,
     D,
     I: Drop,
-    T: Walking<F, G, A, D, I>,
+    T: Walking<'a, F, G, A, D, I>,
 >(
     alloc: Global,
-    store: &Store<F>,
+    store: &'a Store<F>,
     level: Level<A>,
     frames: &mut Vec<Frame<I>>,
     design: &mut D,
@@ -167,15 +168,16 @@ pub(crate) fn into_tree<
 /// Leaves the tree of a frame, whose parts are the level and are walked to the end. The level to go on with is the tree's own.
 #[tactic(auto, using(vd_forest::proofs::StoreLemmas::extends_trans))]
 pub(crate) fn end_level<
+    'a,
     F: Copy + Drop,
     G: Copy + Drop,
     A: Drop,
     D,
     I: Drop,
-    T: Walking<F, G, A, D, I>,
+    T: Walking<'a, F, G, A, D, I>,
 >(
     alloc: Global,
-    store: &Store<F>,
+    store: &'a Store<F>,
     level: Level<A>,
     frame: Frame<I>,
     design: &mut D,

@@ -18,7 +18,7 @@ enum Form {
 #[derive(Drop)]
 struct Depths;
 
-impl Walking<Form, u8, u8, u32, u8> for Depths {
+impl<'a> Walking<'a, Form, u8, u8, u32, u8> for Depths {
     ghost use Rattle.std.specs.Prelude.{◌+◌, min, Some, None, if◌then◌else◌};
     ghost use Rattle.vd_forest.specs.Forest.{leaf, more, nothing};
     ghost use Rattle.vd_walking.specs.Walking.{Walker, Entry, Done, Inside};
@@ -40,7 +40,7 @@ impl Walking<Form, u8, u8, u32, u8> for Depths {
     fn enter(
         &self,
         _alloc: Global,
-        node: &Opened<'_, Form>,
+        node: &Opened<'a, Form>,
         at: u8,
         design: &mut u32,
         out: &mut Store<u8>,
@@ -70,7 +70,7 @@ impl Walking<Form, u8, u8, u32, u8> for Depths {
         &self,
         _alloc: Global,
         kept: u8,
-        node: &Opened<'_, Form>,
+        node: &Opened<'a, Form>,
         outcome: &mut Outcome<u8>,
         _design: &mut u32,
         out: &mut Store<u8>,

@@ -30,14 +30,14 @@ pub enum Entry<A, I> {
 
 /// What a walk does with each tree of the forms `F`, to make trees of the forms `G`, with a state `A` that goes down and along, and a
 /// table `D`. Of a tree whose parts are walked it keeps an `I`.
-pub trait Walking<F: Copy + Drop, G: Copy + Drop, A: Drop, D, I: Drop> {
+pub trait Walking<'a, F: Copy + Drop, G: Copy + Drop, A: Drop, D, I: Drop> {
     ghost walker: { Self → Walker F G A D I };
 
     /// What is done with a tree, before its parts.
     fn enter(
         &self,
         alloc: Global,
-        node: &Opened<'_, F>,
+        node: &Opened<'a, F>,
         at: A,
         design: &mut D,
         out: &mut Store<G>,
@@ -51,7 +51,7 @@ pub trait Walking<F: Copy + Drop, G: Copy + Drop, A: Drop, D, I: Drop> {
         &self,
         alloc: Global,
         kept: I,
-        node: &Opened<'_, F>,
+        node: &Opened<'a, F>,
         outcome: &mut Outcome<A>,
         design: &mut D,
         out: &mut Store<G>,
@@ -65,9 +65,17 @@ pub trait Walking<F: Copy + Drop, G: Copy + Drop, A: Drop, D, I: Drop> {
 /// Walks over a forest, whose first tree has this state. A tree that two nodes share is walked for each of them. The only error is
 /// that memory ran out; the table is then as the calls so far have left it.
 #[tactic(auto, using(vd_forest::proofs::StoreLemmas::extends_trans))]
-pub fn walk<F: Copy + Drop, G: Copy + Drop, A: Drop, D, I: Drop, T: Walking<F, G, A, D, I>>(
+pub fn walk<
+    'a,
+    F: Copy + Drop,
+    G: Copy + Drop,
+    A: Drop,
+    D,
+    I: Drop,
+    T: Walking<'a, F, G, A, D, I>,
+>(
     alloc: Global,
-    from: &Cursor<'_, F>,
+    from: &Cursor<'a, F>,
     at: A,
     design: &mut D,
     out: &mut Store<G>,

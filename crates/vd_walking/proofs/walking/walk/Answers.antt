@@ -1,13 +1,14 @@
-use Rattle.std.proofs.Common.{sym, ap, ◌∙◌, subst}
+use Rattle.std.proofs.Common.{refl, arith, sym, ap, ◌∙◌, subst}
 use Rattle.vd_forest.proofs.StoreLemmas.{extends_trans}
 use Rattle.vd_walking.specs.Levels.{AreFrames, of_level, of_frames}
 use Rattle.vd_walking.proofs.WalkingLemmas.{frames_more, frames_grown, are_frames_grown, are_frames_front, is_frame_last}
 use Rattle.vd_walking.proofs.walking.walk.Goals as goal
 
-pub end_level-requires-clause-frame_in : goal.end_level-requires-clause-frame_in
-end_level-requires-clause-frame_in g c =
+pub end_level-requires : goal.end_level-requires
+end_level-requires g c κs =
+    ((refl, tt), (omega (arith, c.if-level-gt0-2.false), (c.loop-level.invariant.level_in,
     is_frame_last c.stands-number.result.0.now c.loop-level.out c.pop.new.self.items c.in-Some.frame
-    (subst (AreFrames c.stands-number.result.0.now c.loop-level.out) c.in-Some.ensures.items c.loop-level.invariant.frames_in)
+    (subst (AreFrames c.stands-number.result.0.now c.loop-level.out) c.in-Some.ensures.items c.loop-level.invariant.frames_in))))
 
 pub loop-level-preserved-in-Some : goal.loop-level-preserved-in-Some
 loop-level-preserved-in-Some g c =
