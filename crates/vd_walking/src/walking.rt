@@ -65,15 +65,7 @@ pub trait Walking<'a, F: Copy + Drop, G: Copy + Drop, A: Drop, D, I: Drop> {
 /// Walks over a forest, whose first tree has this state. A tree that two nodes share is walked for each of them. The only error is
 /// that memory ran out; the table is then as the calls so far have left it.
 #[tactic(auto, using(vd_forest::proofs::StoreLemmas::extends_trans))]
-pub fn walk<
-    'a,
-    F: Copy + Drop,
-    G: Copy + Drop,
-    A: Drop,
-    D,
-    I: Drop,
-    T: Walking<'a, F, G, A, D, I>,
->(
+pub fn walk<'a, F: Copy + Drop, G: Copy + Drop, A: Drop, D, I: Drop, T: Walking<'a, F, G, A, D, I>>(
     alloc: Global,
     from: &Cursor<'a, F>,
     at: A,

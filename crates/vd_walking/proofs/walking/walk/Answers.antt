@@ -5,10 +5,17 @@ use Rattle.vd_walking.proofs.WalkingLemmas.{frames_more, frames_grown, are_frame
 use Rattle.vd_walking.proofs.walking.walk.Goals as goal
 
 pub end_level-requires : goal.end_level-requires
-end_level-requires g c κs =
-    ((refl, tt), (omega (arith, c.if-level-gt0-2.false), (c.loop-level.invariant.level_in,
-    is_frame_last c.stands-number.result.0.now c.loop-level.out c.pop.new.self.items c.in-Some.frame
-    (subst (AreFrames c.stands-number.result.0.now c.loop-level.out) c.in-Some.ensures.items c.loop-level.invariant.frames_in))))
+end_level-requires g c κs = (
+  (refl, tt),
+  (
+    omega (arith, c.if-level-gt0-2.false),
+    (
+      c.loop-level.invariant.level_in,
+      is_frame_last c.stands-number.result.0.now c.loop-level.out c.pop.new.self.items c.in-Some.frame
+          (subst (AreFrames c.stands-number.result.0.now c.loop-level.out) c.in-Some.ensures.items c.loop-level.invariant.frames_in),
+    ),
+  ),
+)
 
 pub loop-level-preserved-in-Some : goal.loop-level-preserved-in-Some
 loop-level-preserved-in-Some g c =
