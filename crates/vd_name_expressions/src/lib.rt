@@ -1,13 +1,12 @@
-// A library with one function.
+//! Expressions where a design has them: conditions, ranges, targets, selectors, and indexes of array types. (IEEE 1076, the context of overload
+//! resolution; array types; loop statements)
 #![tactic(auto)]
 
-ghost use Rattle.std.specs.Prelude.{◌≡◌};
-ghost use Rattle.vd_name_expressions.specs.Echo.{echo_of};
+pub mod indexes;
+pub mod known;
+pub mod ranges;
+pub mod reading;
+pub mod steps;
 
-// The `ensures` clause is the contract: what `echo` returns is `echo_of` of its argument, a definition
-// in `specs/Echo.antt`, which a caller's clause can cite too.
-pub fn echo(x: usize) -> usize
-    ensures { result ≡ echo_of x }
-{
-    x
-}
+pub use known::{expression, where_known};
+pub use steps::{array_index, index_mark, parameter, selector, surplus, target};

@@ -9,4 +9,4 @@ pub mod nodes;
 pub use alone::{alone, one_tree};
 pub use ended::{Ended, finished};
 pub use made::Made;
-pub use nodes::{add_node, unresolved_node};
+pub use nodes::{add_node, join, unresolved_node};

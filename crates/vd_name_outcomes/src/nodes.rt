@@ -1,7 +1,7 @@
 //! Nodes of resolved trees.
 
 ghost use Rattle.std.specs.Prelude.{◌≤◌, IfOk, length};
-ghost use Rattle.vd_forest.specs.Forest.{nothing, more};
+ghost use Rattle.vd_forest.specs.Forest.{nothing, more, joined};
 ghost use Rattle.vd_forest.specs.Store.{at, Holds, Extends};
 ghost use Rattle.vd_naming.specs.Expressions.{resolved, unresolved as with_nothing_named};
 
@@ -47,5 +47,18 @@ pub fn unresolved_node(
 {
     let parts = unresolved(alloc, &node.parts, out)?;
     let made = add_node(node, None, None, parts, out)?;
+    Ok(made)
+}
+
+/// The trees of one forest, and then those of another.
+#[tactic(auto, using(crate::proofs::JoiningLemmas::holds_joined))]
+pub fn join(first: u32, rest: u32, out: &mut Store<Resolved>) -> Result<u32, AllocError>
+    requires first_in { first ≤ length out.old }
+    requires rest_in { rest ≤ length out.old }
+    ensures holds { IfOk result (λ number. Holds out.new number (joined (at out.old first) (at out.old rest))) }
+    ensures extends { Extends out.old out.new }
+{
+    let turned = out.turn(first, 0)?;
+    let made = out.turn(turned, rest)?;
     Ok(made)
 }

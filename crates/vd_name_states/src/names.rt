@@ -8,7 +8,7 @@ ghost use Rattle.vd_given.specs.Entries.{with_entry};
 ghost use Rattle.vd_given.specs.Given.{with_end};
 ghost use Rattle.vd_given.specs.Operators.{with_operators_of};
 ghost use Rattle.vd_name_states.specs.Designs.{note_at, with_note, with_scopes, put_note, begin_design};
-ghost use Rattle.vd_name_states.specs.Members.{numbers_in, declared_in, next_number, is_of};
+ghost use Rattle.vd_name_states.specs.Members.{numbers_in, declared_in, next_number, next_region, is_of};
 
 use crate::counts::Counts;
 use crate::notes::{NO_NOTE, Note, Taken, put_at};
@@ -206,6 +206,23 @@ impl Names {
         Ok(self.counts.members.of(region.number()))
     }
 
+    /// The number that the next declaration gets.
+    pub fn next_number(&self) -> Result<u32, AllocError>
+        ensures { IfOk result (λ number. number ≡ next_number self.now) }
+    {
+        if !self.whole || !self.counts.is_complete(&self.regions) {
+            return Err(AllocError);
+        }
+        Ok(self.counts.counted)
+    }
+
+    /// The number that the next region gets.
+    pub fn next_region(&self) -> Result<u32, AllocError>
+        ensures { IfOk result (λ number. number ≡ next_region self.now) }
+    {
+        count_regions(&self.regions)
+    }
+
     /// Opens a region inside another, which may continue one.
     pub fn open(
         &mut self,
@@ -309,4 +326,24 @@ impl Names {
         self.taken.push(taken)?;
         Ok(())
     }
+}
+
+/// How many regions there are. They are found by halves, since nothing below counts them.
+fn count_regions(regions: &Regions) -> Result<u32, AllocError>
+    ensures { IfOk result (λ number. number ≡ length regions.now.regions) }
+{
+    let mut low = 0;
+    let mut high = u32::MAX;
+    if regions.is_region(RegionId::of(high)) {
+        return Err(AllocError);
+    }
+    while low < high {
+        let middle = low + (high - low) / 2;
+        if regions.is_region(RegionId::of(middle)) {
+            low = middle + 1;
+        } else {
+            high = middle;
+        }
+    }
+    Ok(low)
 }

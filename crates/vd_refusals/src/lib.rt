@@ -8,5 +8,6 @@ mod seen;
 mod spots;
 
 pub use finder::first_refusal;
+pub use pieces::path_seen;
 pub use seen::Seen;
 pub use spots::{Need, Spot};

@@ -216,7 +216,7 @@ fn path_step(
 }
 
 /// What a name of points alone is.
-fn path_seen(
+pub fn path_seen(
     at: &Surroundings<'_>,
     alloc: Global,
     pieces: &Cursor<'_, Form>,

@@ -1,0 +1,78 @@
+//! What is refused of a tree beside its names.
+
+ghost use Rattle.std.specs.Prelude.{◌≡◌, IfOk};
+ghost use Rattle.vd_forest.specs.Forest.{Forest};
+ghost use Rattle.vd_resolved.specs.declared.node.Resolved.{Resolved};
+ghost use Rattle.vd_name_states.specs.Designs.{sight};
+ghost use Rattle.vd_overloads.specs.Interpretations.{first_place as place_of_first};
+ghost use Rattle.vd_naming.specs.Expressions.{names_or as names_or_rule, not_selecting as refused_selector, mark_of as type_of};
+ghost use Rattle.vd_naming.specs.Indexes.{is_other_type as is_not_discrete};
+
+use std::alloc::{AllocError, Global};
+use vd_bytes::{Place, Refused};
+use vd_declarations::TypeId;
+use vd_forest::Cursor;
+use vd_forms::Form;
+use vd_name_reading::wants::is_discrete_type;
+use vd_name_reading::{can_select, refused_names};
+use vd_name_states::{At, Names};
+
+/// The place of the first tree.
+pub fn first_place(tree: &Cursor<'_, Form>) -> Place
+    ensures { result ≡ place_of_first tree.now }
+{
+    match tree.place() {
+        Some(place) => place,
+        None => Place {
+            file: 0,
+            line: 0,
+            column: 0,
+        },
+    }
+}
+
+/// The first name of a tree that is refused, or a rule that the whole breaks.
+pub fn names_or(
+    alloc: Global,
+    names: &Names,
+    at: &At<'_>,
+    rule: u16,
+    place: Place,
+    tree: &Cursor<'_, Form>,
+) -> Result<Option<Refused>, AllocError>
+    ensures { IfOk result (λ first. first ≡ names_or_rule rule at.now names.now place tree.now) }
+{
+    match refused_names(alloc, names, at, tree)? {
+        Some(refused) => Ok(Some(refused)),
+        None => Ok(Some(Refused { place, rule })),
+    }
+}
+
+/// What is refused of a selector of this type.
+pub fn not_selecting(
+    names: &Names,
+    at: &At<'_>,
+    mark: Option<TypeId>,
+    tree: &Cursor<'_, Form>,
+) -> Option<Refused>
+    ensures { (reading : Forest Resolved) → mark ≡ type_of reading
+        → result ≡ refused_selector at.now.is_matching (sight at.now names.now) tree.now reading }
+{
+    if can_select(names, at, at.is_matching, mark) {
+        return None;
+    }
+    Some(Refused {
+        place: first_place(tree),
+        rule: 305,
+    })
+}
+
+/// Whether there is a type, and it isn't discrete.
+pub fn is_other_type(names: &Names, at: &At<'_>, mark: Option<TypeId>) -> bool
+    ensures { result ≡ is_not_discrete (sight at.now names.now) mark }
+{
+    match mark {
+        None => false,
+        Some(mark) => !is_discrete_type(names, at, mark),
+    }
+}

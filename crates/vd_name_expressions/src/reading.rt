@@ -1,0 +1,66 @@
+//! The first of some trees, read by itself.
+
+ghost use Rattle.std.specs.Prelude.{◌≡◌, IfOk};
+ghost use Rattle.vd_forest.specs.Forest.{nothing, with_next};
+ghost use Rattle.vd_forest.specs.Store.{Extends};
+ghost use Rattle.vd_name_states.specs.Designs.{sight};
+ghost use Rattle.vd_naming.specs.Expressions.{read_as as outcome_of, read_as_mark as outcome_of_mark, type_declared as type_of_declared};
+ghost use Rattle.vd_name_reading.specs.Reads.{IsRead};
+
+use std::alloc::{AllocError, Global};
+use vd_declarations::{DeclId, TypeId};
+use vd_forest::{Cursor, Store};
+use vd_forms::Form;
+use vd_name_outcomes::alone;
+use vd_name_reading::{Read, read_as, read_as_mark};
+use vd_name_states::{At, Names};
+use vd_overloads::Wanted;
+use vd_resolved::Resolved;
+
+/// The first tree, of which something is wanted.
+pub fn read_first(
+    alloc: Global,
+    names: &Names,
+    at: &At<'_>,
+    wanted: &Wanted,
+    trees: &Cursor<'_, Form>,
+    out: &mut Store<Resolved>,
+) -> Result<Read, AllocError>
+    ensures is { IfOk result (λ read. IsRead out.new read (outcome_of at.now names.now wanted.now (with_next trees.now nothing))) }
+    ensures extends { Extends out.old out.new }
+{
+    let mut single = Store::new(alloc);
+    let number = alone(trees, &mut single)?;
+    read_as(alloc, names, at, wanted, &single.cursor(number), out)
+}
+
+/// The first tree, which has to be a mark.
+pub fn read_first_mark(
+    alloc: Global,
+    names: &Names,
+    at: &At<'_>,
+    trees: &Cursor<'_, Form>,
+    out: &mut Store<Resolved>,
+) -> Result<Read, AllocError>
+    ensures is { IfOk result (λ read. IsRead out.new read (outcome_of_mark at.now names.now (with_next trees.now nothing))) }
+    ensures extends { Extends out.old out.new }
+{
+    let mut single = Store::new(alloc);
+    let number = alone(trees, &mut single)?;
+    read_as_mark(alloc, names, at, &single.cursor(number), out)
+}
+
+/// The type that a declaration means, where there is one and it is a mark.
+pub fn type_declared(
+    names: &Names,
+    at: &At<'_>,
+    declared: Option<DeclId>,
+) -> Result<Option<TypeId>, AllocError>
+    ensures { IfOk result (λ mark. mark ≡ type_of_declared (sight at.now names.now) declared) }
+{
+    let Some(id) = declared else {
+        return Ok(None);
+    };
+    let place = names.surroundings(at.revision, at.region)?;
+    Ok(place.type_meant(id))
+}
