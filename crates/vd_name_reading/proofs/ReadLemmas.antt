@@ -14,7 +14,7 @@ use Rattle.vd_resolved.specs.declared.node.Resolved.{Resolved}
 use Rattle.vd_given.specs.declared.numbers.TheConstants.{BOOLEAN}
 use Rattle.vd_readings.specs.Readings.{readings_in}
 use Rattle.vd_refusals.specs.Refusals.{first_refusal}
-use Rattle.vd_states.specs.declared.states.Want.TheVariants as want
+use Rattle.vd_states.specs.declared.states.State.{State}
 use Rattle.vd_sights.specs.Sights.{Standpoint, sight_from}
 use Rattle.vd_name_states.specs.Designs.{At, Design, standpoint}
 use Rattle.vd_naming.specs.Edges.{edge_of_no_signal}
@@ -77,24 +77,22 @@ module _ (at' : At) (d : Design) (w : Wanted) (tree : Forest Form) (pieces : Opt
 abbrev pub marks_from : Standpoint → Forest Form → List (Forest Resolved)
 marks_from p tree = readings_in (rules_at p) (alone tree) (mark_states (sight_from p))
 
-module _ (at' : At) (d : Design) (tree : Forest Form) (pieces : Option Refused) (store : List (Forest Resolved)) (read : Read) where
-  pub mark_one : (p : Standpoint) → p ≡ standpoint at' d → HoldsOnly store read.tree (marks_from p tree)
-      → read.first ≡ pieces → IsRead store read (mark_read_beside at' d tree pieces)
-  mark_one p same held first =
-      let only : mark_readings at' d tree ≡ at store read.tree ∷ [] = sym (ap (λ q. marks_from q tree) same) ∙ held.only in
-      record {
-        holds = record { within = held.within; is = sym (ap (only_reading tree) only) };
-        first = first ∙ sym (lesser_right pieces) ∙ ap (lesser pieces) (sym (ap (refused_unless_one (refused_mark at' d tree)) only));
-      }
+-- what was found in the states of a standpoint is what was found at the place
+pub mark_found : (at' : At) (d : Design) (tree : Forest Form) (p : Standpoint) (states : List State) → p ≡ standpoint at' d → states ≡ mark_states (sight_from p)
+    → alone tree ≡ tree → readings_in (rules_at p) tree states ≡ mark_readings at' d tree
+mark_found at' d tree p states same are single =
+    ap (readings_in (rules_at p) tree) are ∙ ap (λ t. readings_in (rules_at p) t (mark_states (sight_from p))) (sym single) ∙ ap (λ q. marks_from q tree) same
 
-  pub mark_none : (p : Standpoint) (r : Option Refused) → p ≡ standpoint at' d → IsNotOne (marks_from p tree)
-      → r ≡ no_mark (first_refusal (sight_from p) (want.Mark BOOLEAN) tree) (first_place tree) → Holds store read.tree (unresolved tree)
-      → read.first ≡ lesser pieces r → IsRead store read (mark_read_beside at' d tree pieces)
-  mark_none p r same several refused held first =
-      let not_one : IsNotOne (mark_readings at' d tree) = subst (λ q. IsNotOne (marks_from q tree)) same several in
-      record {
-        holds = record { within = held.within; is = held.is ∙ sym (left_out tree (mark_readings at' d tree) not_one) };
-        first = first
-            ∙ ap (lesser pieces) (refused ∙ ap (λ q. no_mark (first_refusal (sight_from q) (want.Mark BOOLEAN) tree) (first_place tree)) same
-            ∙ sym (refused_whole_list (refused_mark at' d tree) (mark_readings at' d tree) not_one));
-      }
+module _ (at' : At) (d : Design) (tree : Forest Form) (pieces : Option Refused) (store : List (Forest Resolved)) (read : Read) where
+  pub mark_one : HoldsOnly store read.tree (mark_readings at' d tree) → read.first ≡ pieces → IsRead store read (mark_read_beside at' d tree pieces)
+  mark_one held first = record {
+    holds = record { within = held.within; is = sym (ap (only_reading tree) held.only) };
+    first = first ∙ sym (lesser_right pieces) ∙ ap (lesser pieces) (sym (ap (refused_unless_one (refused_mark at' d tree)) held.only));
+  }
+
+  pub mark_none : IsNotOne (mark_readings at' d tree) → Holds store read.tree (unresolved tree)
+      → read.first ≡ lesser pieces (refused_mark at' d tree) → IsRead store read (mark_read_beside at' d tree pieces)
+  mark_none not_one held first = record {
+    holds = record { within = held.within; is = held.is ∙ sym (left_out tree (mark_readings at' d tree) not_one) };
+    first = first ∙ ap (lesser pieces) (sym (refused_whole_list (refused_mark at' d tree) (mark_readings at' d tree) not_one));
+  }

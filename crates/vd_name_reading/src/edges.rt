@@ -36,7 +36,7 @@ fn region_of(names: &Names, id: DeclId) -> u32
 }
 
 /// Whether it is one of the two functions.
-fn is_edge_function(names: &Names, function: Option<DeclId>) -> bool
+pub fn is_edge_function(names: &Names, function: Option<DeclId>) -> bool
     ensures { result ≡ calls_edge names.now.scopes function }
 {
     match function {

@@ -7,9 +7,9 @@ ghost use Rattle.vd_readings.specs.Found.{HoldsOnly, IsFound};
 ghost use Rattle.vd_resolved.specs.declared.node.Resolved.{Resolved};
 ghost use Rattle.vd_forest.specs.Store.{Extends};
 ghost use Rattle.vd_overloads.specs.Interpretations.{first_place as place_of_first};
-ghost use Rattle.vd_naming.specs.Expressions.{mark_states, no_mark};
+ghost use Rattle.vd_naming.specs.Expressions.{mark_states, mark_readings, no_mark};
 ghost use Rattle.vd_sights.specs.Sights.{sight_from};
-ghost use Rattle.vd_name_reading.specs.Reads.{IsRead, mark_read_beside};
+ghost use Rattle.vd_name_reading.specs.Reads.{IsRead, refused_mark, mark_read_beside};
 
 use crate::reading::Read;
 use std::alloc::{AllocError, Global};
@@ -73,6 +73,42 @@ fn only(found: Found) -> Option<u32>
     }
 }
 
+/// The only reading of one tree that has to be a mark, made in a store, where there is one.
+pub fn only_mark(
+    alloc: Global,
+    names: &Names,
+    at: &At<'_>,
+    tree: &Cursor<'_, Form>,
+    out: &mut Store<Resolved>,
+) -> Result<Option<u32>, AllocError>
+    requires alone { with_next tree.now nothing ≡ tree.now }
+    ensures found { IfOk result (λ found. MatchOption found (IsNotOne (mark_readings at.now names.now tree.now))
+        (λ number. HoldsOnly out.new number (mark_readings at.now names.now tree.now))) }
+    ensures extends { Extends out.old out.new }
+{
+    let env = Env {
+        surroundings: names.surroundings(at.revision, at.region)?,
+    };
+    let states = mark_states(alloc, &env.surroundings)?;
+    let found = read(alloc, &env, tree, &states, out)?;
+    Ok(only(found))
+}
+
+/// What is refused of a tree that is no mark.
+fn refused_mark(
+    alloc: Global,
+    names: &Names,
+    at: &At<'_>,
+    tree: &Cursor<'_, Form>,
+) -> Result<Option<Refused>, AllocError>
+    ensures { IfOk result (λ first. first ≡ refused_mark at.now names.now tree.now) }
+{
+    let place = names.surroundings(at.revision, at.region)?;
+    let mark = Want::Mark(TypeId::of(BOOLEAN));
+    let name = first_refusal(&place, alloc, &mark, tree)?;
+    Ok(no_mark(name, first_place(tree)))
+}
+
 /// One expression that has to be a mark. What is refused of its names whatever is wanted is known already.
 pub fn mark_read_beside(
     alloc: Global,
@@ -86,23 +122,17 @@ pub fn mark_read_beside(
     ensures is { IfOk result (λ read. IsRead out.new read (mark_read_beside at.now names.now tree.now pieces)) }
     ensures extends { Extends out.old out.new }
 {
-    let env = Env {
-        surroundings: names.surroundings(at.revision, at.region)?,
-    };
-    let states = mark_states(alloc, &env.surroundings)?;
-    let found = read(alloc, &env, tree, &states, out)?;
-    match only(found) {
+    match only_mark(alloc, names, at, tree, out)? {
         Some(number) => Ok(Read {
             tree: number,
             first: pieces,
         }),
         None => {
-            let mark = Want::Mark(TypeId::of(BOOLEAN));
-            let name = first_refusal(&env.surroundings, alloc, &mark, tree)?;
+            let refused = refused_mark(alloc, names, at, tree)?;
             let number = unresolved(alloc, tree, out)?;
             Ok(Read {
                 tree: number,
-                first: lesser(pieces, no_mark(name, first_place(tree))),
+                first: lesser(pieces, refused),
             })
         }
     }

@@ -1,11 +1,11 @@
 use Rattle.std.proofs.Common.{◌≤◌, ◌-◌, length}
 use Rattle.vd_name_states.proofs.names.count_regions.Given as goal
 
-abbrev pub invariant-loop-middle : goal.invariant-loop-middle
-invariant-loop-middle l = record {
+abbrev pub invariant-loop-low : goal.invariant-loop-low
+invariant-loop-low l = record {
   below : l.low ≤ length l.regions.regions;
   above : length l.regions.regions ≤ l.high;
 }
 
-abbrev pub decreases-loop-middle : goal.decreases-loop-middle
-decreases-loop-middle l = l.high - l.low
+abbrev pub decreases-loop-low : goal.decreases-loop-low
+decreases-loop-low l = l.high - l.low
