@@ -2,6 +2,7 @@
 
 ghost use Rattle.std.specs.Prelude.{◌≡◌, IfOk};
 ghost use Rattle.vd_forest.specs.Forest.{Forest};
+ghost use Rattle.vd_forms.specs.declared.form.Form.{Form};
 ghost use Rattle.vd_resolved.specs.declared.node.Resolved.{Resolved};
 ghost use Rattle.vd_name_states.specs.Designs.{sight};
 ghost use Rattle.vd_overloads.specs.Interpretations.{first_place as place_of_first};
@@ -48,31 +49,28 @@ pub fn names_or(
     }
 }
 
-/// What is refused of a selector of this type.
+/// What is refused of a selector of this type, at the place of its first token.
 pub fn not_selecting(
     names: &Names,
     at: &At<'_>,
-    mark: Option<TypeId>,
-    tree: &Cursor<'_, Form>,
+    mark: &Option<TypeId>,
+    place: Place,
 ) -> Option<Refused>
-    ensures { (reading : Forest Resolved) → mark ≡ type_of reading
-        → result ≡ refused_selector at.now.is_matching (sight at.now names.now) tree.now reading }
+    ensures { (tree : Forest Form) (reading : Forest Resolved) → mark.now ≡ type_of reading → place ≡ place_of_first tree
+        → result ≡ refused_selector at.now.is_matching (sight at.now names.now) tree reading }
 {
-    if can_select(names, at, at.is_matching, mark) {
+    if can_select(names, at, at.is_matching, *mark) {
         return None;
     }
-    Some(Refused {
-        place: first_place(tree),
-        rule: 305,
-    })
+    Some(Refused { place, rule: 305 })
 }
 
 /// Whether there is a type, and it isn't discrete.
-pub fn is_other_type(names: &Names, at: &At<'_>, mark: Option<TypeId>) -> bool
-    ensures { result ≡ is_not_discrete (sight at.now names.now) mark }
+pub fn is_other_type(names: &Names, at: &At<'_>, mark: &Option<TypeId>) -> bool
+    ensures { result ≡ is_not_discrete (sight at.now names.now) mark.now }
 {
     match mark {
         None => false,
-        Some(mark) => !is_discrete_type(names, at, mark),
+        Some(mark) => !is_discrete_type(names, at, *mark),
     }
 }

@@ -1,7 +1,6 @@
 //! Marks with a range: the mark, and then each bound, by itself.
 
-ghost use Rattle.std.specs.Prelude.{◌≤◌, IfOk, length};
-ghost use Rattle.vd_bytes.specs.declared.answers.Refused.{Refused};
+ghost use Rattle.std.specs.Prelude.{◌≤◌, [], IfOk, length};
 ghost use Rattle.vd_forest.specs.Forest.{nothing, more, joined};
 ghost use Rattle.vd_forest.specs.Store.{at, Holds, Extends};
 ghost use Rattle.vd_naming.specs.Expressions.{resolved, bounds_as as bounds_of, bounds_if as bounds_where, bounds_of_type as bounds_with_type, narrowed as narrowed_mark};
@@ -112,21 +111,21 @@ fn bounds_of_type(
     alloc: Global,
     names: &Names,
     at: &At<'_>,
-    mark: Option<TypeId>,
+    mark: &Option<TypeId>,
     wanted: &Wanted,
     place: Place,
     bounds: &Cursor<'_, Form>,
     out: &mut Store<Resolved>,
 ) -> Result<Made, AllocError>
-    ensures is { IfOk result (λ made. IsMade out.new names.now made (bounds_with_type mark wanted.now at.now names.now place bounds.now)) }
+    ensures is { IfOk result (λ made. IsMade out.new names.now made (bounds_with_type mark.now wanted.now at.now names.now place bounds.now)) }
     ensures extends { Extends out.old out.new }
 {
     let Some(mark) = mark else {
         let tree = unresolved(alloc, bounds, out)?;
         return Ok(Made { tree, first: None });
     };
-    let fits = fits_wanted(names, at, wanted, mark);
-    bounds_if(alloc, names, at, fits, mark, place, bounds, out)
+    let fits = fits_wanted(names, at, wanted, *mark);
+    bounds_if(alloc, names, at, fits, *mark, place, bounds, out)
 }
 
 /// A mark with a range, given its parts.
@@ -145,7 +144,7 @@ pub fn narrowed(
     let read = read_first_mark(alloc, names, at, parts, out)?;
     let declared = mark_declared(&out.cursor(read.tree));
     let mark = type_declared(names, at, declared)?;
-    let bounds = bounds_of_type(alloc, names, at, mark, wanted, place, &parts.next(), out)?;
+    let bounds = bounds_of_type(alloc, names, at, &mark, wanted, place, &parts.next(), out)?;
     let tree = with_node(
         Form::DiscreteSubtype,
         mark,

@@ -1,17 +1,18 @@
 //! The first of some trees, read by itself.
 
 ghost use Rattle.std.specs.Prelude.{◌≡◌, IfOk};
-ghost use Rattle.vd_forest.specs.Forest.{nothing, with_next};
+ghost use Rattle.vd_forest.specs.Forest.{nothing, more, with_next};
 ghost use Rattle.vd_forest.specs.Store.{Extends};
 ghost use Rattle.vd_name_states.specs.Designs.{sight};
 ghost use Rattle.vd_naming.specs.Expressions.{read_as as outcome_of, read_as_mark as outcome_of_mark, type_declared as type_of_declared};
 ghost use Rattle.vd_name_reading.specs.Reads.{IsRead};
+ghost use Rattle.vd_name_outcomes.specs.Made.{IsMade};
 
 use std::alloc::{AllocError, Global};
 use vd_declarations::{DeclId, TypeId};
-use vd_forest::{Cursor, Store};
+use vd_forest::{Cursor, Opened, Store};
 use vd_forms::Form;
-use vd_name_outcomes::alone;
+use vd_name_outcomes::{Made, alone, one_tree};
 use vd_name_reading::{Read, read_as, read_as_mark};
 use vd_name_states::{At, Names};
 use vd_overloads::Wanted;
@@ -48,6 +49,49 @@ pub fn read_first_mark(
     let mut single = Store::new(alloc);
     let number = alone(trees, &mut single)?;
     read_as_mark(alloc, names, at, &single.cursor(number), out)
+}
+
+/// One tree, of which something is wanted.
+pub fn read_node(
+    alloc: Global,
+    names: &Names,
+    at: &At<'_>,
+    wanted: &Wanted,
+    node: &Opened<'_, Form>,
+    out: &mut Store<Resolved>,
+) -> Result<Made, AllocError>
+    ensures is { IfOk result (λ made. IsMade out.new names.now made
+        (outcome_of at.now names.now wanted.now (more node.now.form node.now.text.now node.now.place node.now.parts nothing))) }
+    ensures extends { Extends out.old out.new }
+{
+    let mut single = Store::new(alloc);
+    let number = one_tree(node, &mut single)?;
+    let read = read_as(alloc, names, at, wanted, &single.cursor(number), out)?;
+    Ok(Made {
+        tree: read.tree,
+        first: read.first,
+    })
+}
+
+/// One tree, which has to be a mark.
+pub fn read_mark_node(
+    alloc: Global,
+    names: &Names,
+    at: &At<'_>,
+    node: &Opened<'_, Form>,
+    out: &mut Store<Resolved>,
+) -> Result<Made, AllocError>
+    ensures is { IfOk result (λ made. IsMade out.new names.now made
+        (outcome_of_mark at.now names.now (more node.now.form node.now.text.now node.now.place node.now.parts nothing))) }
+    ensures extends { Extends out.old out.new }
+{
+    let mut single = Store::new(alloc);
+    let number = one_tree(node, &mut single)?;
+    let read = read_as_mark(alloc, names, at, &single.cursor(number), out)?;
+    Ok(Made {
+        tree: read.tree,
+        first: read.first,
+    })
 }
 
 /// The type that a declaration means, where there is one and it is a mark.

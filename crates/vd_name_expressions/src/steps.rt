@@ -10,7 +10,7 @@ ghost use Rattle.vd_name_outcomes.specs.Made.{IsMade};
 
 use crate::indexes::{is_other_type, names_or, not_selecting};
 use crate::known::expression;
-use crate::reading::type_declared;
+use crate::reading::{read_mark_node, read_node, type_declared};
 use std::alloc::{AllocError, Global};
 use vd_declarations::Class;
 use vd_forest::{Opened, Store};
@@ -19,7 +19,7 @@ use vd_least::lesser;
 use vd_name_entering::{declaration_of, enter};
 use vd_name_outcomes::{Made, one_tree, unresolved_node};
 use vd_name_paths::broken_if;
-use vd_name_reading::{mark_declared, mark_of, read_as, read_as_mark};
+use vd_name_reading::{mark_declared, mark_of};
 use vd_name_states::{At, Names, Want};
 use vd_overloads::Wanted;
 use vd_resolved::Resolved;
@@ -37,14 +37,9 @@ pub fn target(
     ensures at { OnOk result (at.new ≡ (target_step at.old names.now (more node.now.form node.now.text.now node.now.place node.now.parts nothing)).at) }
     ensures extends { Extends out.old out.new }
 {
-    let mut single = Store::new(alloc);
-    let number = one_tree(node, &mut single)?;
-    let read = read_as(alloc, names, at, &Wanted::Free, &single.cursor(number), out)?;
-    at.mark = mark_of(&out.cursor(read.tree));
-    Ok(Made {
-        tree: read.tree,
-        first: read.first,
-    })
+    let made = read_node(alloc, names, at, &Wanted::Free, node, out)?;
+    at.mark = mark_of(&out.cursor(made.tree));
+    Ok(made)
 }
 
 /// A selector, whose type is that of the choices behind it.
@@ -60,16 +55,13 @@ pub fn selector(
     ensures at { OnOk result (at.new ≡ (selector_step at.old names.now (more node.now.form node.now.text.now node.now.place node.now.parts nothing)).at) }
     ensures extends { Extends out.old out.new }
 {
-    let mut single = Store::new(alloc);
-    let number = one_tree(node, &mut single)?;
-    let tree = single.cursor(number);
-    let read = read_as(alloc, names, at, &Wanted::Free, &tree, out)?;
-    let mark = mark_of(&out.cursor(read.tree));
-    let refused = not_selecting(names, at, mark, &tree);
+    let made = read_node(alloc, names, at, &Wanted::Free, node, out)?;
+    let mark = mark_of(&out.cursor(made.tree));
+    let refused = not_selecting(names, at, &mark, node.place);
     at.selector = mark;
     Ok(Made {
-        tree: read.tree,
-        first: lesser(read.first, refused),
+        tree: made.tree,
+        first: lesser(made.first, refused),
     })
 }
 
@@ -113,16 +105,14 @@ pub fn index_mark(
     ensures at { OnOk result (at.new ≡ (index_mark_step at.old names.now (more node.now.form node.now.text.now node.now.place node.now.parts nothing)).at) }
     ensures extends { Extends out.old out.new }
 {
-    let mut single = Store::new(alloc);
-    let number = one_tree(node, &mut single)?;
-    let read = read_as_mark(alloc, names, at, &single.cursor(number), out)?;
-    let declared = mark_declared(&out.cursor(read.tree));
+    let made = read_mark_node(alloc, names, at, node, out)?;
+    let declared = mark_declared(&out.cursor(made.tree));
     let mark = type_declared(names, at, declared)?;
-    let refused = broken_if(is_other_type(names, at, mark), 307, node.place);
+    let refused = broken_if(is_other_type(names, at, &mark), 307, node.place);
     at.mark = mark;
     Ok(Made {
-        tree: read.tree,
-        first: lesser(read.first, refused),
+        tree: made.tree,
+        first: lesser(made.first, refused),
     })
 }
 
