@@ -2,7 +2,7 @@
 
 ghost use Rattle.std.specs.Prelude.{◌≡◌, ℕ, List, [], false, true, None, nat_eq, IfOk, OnOk};
 ghost use Rattle.std.specs.Option.{unwrap_or};
-ghost use Rattle.std_collections.specs.HashMap.{get};
+ghost use Rattle.std.specs.HashMap.{get};
 ghost use Rattle.vd_naming.specs.Associations.{is_among_numbers};
 ghost use Rattle.vd_naming.specs.Actuals.{actual_of};
 ghost use Rattle.vd_name_actuals.specs.StandIns.{Pairs, stand_in};
@@ -31,7 +31,7 @@ pub struct StandIns {
 impl Model for StandIns {
     ghost use Rattle.std.specs.Prelude.{◌≡◌, ℕ, false, None, nat_eq};
     ghost use Rattle.std.specs.Option.{unwrap_or};
-    ghost use Rattle.std_collections.specs.HashMap.{get};
+    ghost use Rattle.std.specs.HashMap.{get};
     ghost use Rattle.vd_name_actuals.specs.StandIns.{Pairs, stand_in};
 
     ghost Value = { Pairs };
