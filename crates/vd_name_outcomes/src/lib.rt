@@ -1,12 +1,12 @@
 //! What trees come to where names are resolved: their nodes, and what is known where a node ends.
 #![tactic(auto)]
 
-pub mod alone;
 pub mod ended;
 pub mod made;
 pub mod nodes;
+pub mod single;
 
-pub use alone::{alone, one_tree};
 pub use ended::{Ended, finished};
 pub use made::Made;
 pub use nodes::{add_node, join, unresolved_node};
+pub use single::{alone, one_tree};

@@ -11,14 +11,12 @@ use Rattle.vd_overloads.specs.Interpretations.{alone, first_place, interpretatio
 use Rattle.vd_overloads.specs.declared.wanted.Wanted.{Wanted}
 use Rattle.vd_readings.specs.Found.{HoldsOnly}
 use Rattle.vd_resolved.specs.declared.node.Resolved.{Resolved}
-use Rattle.vd_given.specs.declared.numbers.TheConstants.{BOOLEAN}
 use Rattle.vd_readings.specs.Readings.{readings_in}
-use Rattle.vd_refusals.specs.Refusals.{first_refusal}
 use Rattle.vd_states.specs.declared.states.State.{State}
 use Rattle.vd_sights.specs.Sights.{Standpoint, sight_from}
 use Rattle.vd_name_states.specs.Designs.{At, Design, standpoint}
 use Rattle.vd_naming.specs.Edges.{edge_of_no_signal}
-use Rattle.vd_naming.specs.Expressions.{only_reading, refused_unless_one, unresolved, mark_states, mark_readings, no_mark}
+use Rattle.vd_naming.specs.Expressions.{only_reading, refused_unless_one, unresolved, mark_states, mark_readings}
 use Rattle.vd_name_reading.specs.Reads.{IsRead, interpreted, refused_whole, read_beside, refused_mark, mark_read_beside}
 use Rattle.vd_name_reading.specs.declared.reading.Read.{Read}
 

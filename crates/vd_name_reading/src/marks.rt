@@ -122,7 +122,8 @@ pub fn mark_read_beside(
     ensures is { IfOk result (λ read. IsRead out.new read (mark_read_beside at.now names.now tree.now pieces)) }
     ensures extends { Extends out.old out.new }
 {
-    match only_mark(alloc, names, at, tree, out)? {
+    let found = only_mark(alloc, names, at, tree, out)?;
+    match found {
         Some(number) => Ok(Read {
             tree: number,
             first: pieces,
