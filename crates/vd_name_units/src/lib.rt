@@ -1,0 +1,14 @@
+//! What design units declare at their ends. (IEEE 1076, design units and their analysis; entity declarations; architecture bodies; package
+//! declarations; package bodies; context declarations)
+#![tactic(auto)]
+
+pub mod bodies;
+pub mod endings;
+pub mod entering;
+pub mod packages;
+pub mod words;
+
+pub use bodies::{instances_in, note_bodies};
+pub use endings::{architecture_ends, context_ends, entity_ends, unit_ends};
+pub use packages::{package_body_ends, package_ends};
+pub use words::{is_library_word, refused_word};
