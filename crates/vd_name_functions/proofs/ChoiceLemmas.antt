@@ -3,7 +3,7 @@ use Rattle.std.proofs.Common.{◌≡◌, ℕ, Bool, true, false, cond, ◌&&◌,
 use Rattle.std.specs.List.{filter}
 use Rattle.std.specs.Option.{option_or}
 use Rattle.vd_declarations.specs.declared.declarations.Declaration.{Declaration}
-use Rattle.vd_regions.specs.Scopes.{declaration_at, continued, region_at}
+use Rattle.vd_regions.specs.Scopes.{declaration_at, region_at}
 use Rattle.vd_name_states.specs.declared.sorts.Sort.TheVariants as sort
 use Rattle.vd_name_states.specs.Designs.{At, Design}
 use Rattle.vd_name_states.specs.Members.{numbers_in, is_of, next_number}

@@ -64,7 +64,15 @@ fn generic_read(
 {
     let name = at.word.name(alloc)?;
     let class = Class::GenericFunction;
-    function_of(alloc, names, class, name.as_slice(), at.word_place, at.mark, region)
+    function_of(
+        alloc,
+        names,
+        class,
+        name.as_slice(),
+        at.word_place,
+        at.mark,
+        region,
+    )
 }
 
 /// The type that is a generic with the name that was read last.

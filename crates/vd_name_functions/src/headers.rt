@@ -74,5 +74,12 @@ pub(crate) fn function_read(
     ensures { IfOk result (λ made. made ≡ written_function (record { name = at.now.word; place = at.now.word_place }) at.now.mark region names.now) }
 {
     let name = at.word.name(alloc)?;
-    written_function(alloc, names, name.as_slice(), at.word_place, at.mark, region)
+    written_function(
+        alloc,
+        names,
+        name.as_slice(),
+        at.word_place,
+        at.mark,
+        region,
+    )
 }

@@ -42,7 +42,11 @@ fn have_same_types(names: &Names, header: &Taken, one: &[DeclId], other: &[DeclI
         return false;
     }
     for (index, parameter) in one.iter().enumerate() {
-        if !is_same_type(header, names.mark_of(*parameter), names.mark_of(other[index])) {
+        if !is_same_type(
+            header,
+            names.mark_of(*parameter),
+            names.mark_of(other[index]),
+        ) {
             return false;
         }
     }
@@ -75,13 +79,7 @@ pub(crate) fn header_of(names: &Names, id: DeclId) -> u32
 
 /// Whether a declaration is a function that is written, without a body so far, and with the types of this body, whose header begins and ends
 /// at these numbers.
-fn is_open_function(
-    names: &Names,
-    first: u32,
-    end: u32,
-    body: &Declaration,
-    id: DeclId,
-) -> bool
+fn is_open_function(names: &Names, first: u32, end: u32, body: &Declaration, id: DeclId) -> bool
     ensures { result ≡ is_open_function names.now first end body.now id }
 {
     let Some(declared) = names.declaration(id) else {
