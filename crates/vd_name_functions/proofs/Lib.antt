@@ -1,0 +1,4 @@
+pub mod TypeLemmas
+pub mod ChoiceLemmas
+pub mod HeaderLemmas
+pub mod TyingLemmas

@@ -1,0 +1,146 @@
+//! The type of a result, with which the header of a body ends.
+
+ghost use Rattle.std.specs.Prelude.{◌≡◌, IfOk, OnOk, List, Option, None};
+ghost use Rattle.vd_bytes.specs.declared.answers.Refused.{Refused as Broken};
+ghost use Rattle.vd_forest.specs.Forest.{Forest, nothing, more};
+ghost use Rattle.vd_forest.specs.Store.{Holds, Extends};
+ghost use Rattle.vd_least.specs.Least.{lesser as lesser_refusal};
+ghost use Rattle.vd_resolved.specs.declared.node.Resolved.{Resolved as Node};
+ghost use Rattle.vd_name_states.specs.Designs.{gives};
+ghost use Rattle.vd_name_outcomes.specs.Made.{IsMade};
+ghost use Rattle.vd_naming.specs.Paths.{mark};
+ghost use Rattle.vd_naming.specs.Functions.{body_known, body_entered, header_ends, header_ends_as};
+
+use crate::headers::function_read;
+use crate::matching::{declaration_of_body, header_of};
+use crate::noting::note_span;
+use std::alloc::{AllocError, Global};
+use vd_bytes::Refused;
+use vd_declarations::{DeclId, Declaration};
+use vd_forest::{Opened, Store};
+use vd_forms::Form;
+use vd_least::lesser;
+use vd_name_entering::enter;
+use vd_name_outcomes::{Made, one_tree};
+use vd_name_paths::{Fit, fits_are_tests, named_as};
+use vd_name_states::{At, Names, Taken};
+use vd_resolved::Resolved;
+
+/// The body is that of a declaration, whose header its own stands for.
+fn body_known(
+    names: &mut Names,
+    at: &mut At<'_>,
+    id: DeclId,
+    new: &Declaration,
+) -> Result<(), AllocError>
+    ensures design { OnOk result (names.new ≡ (body_known id at.old names.old new.now (gives at.old names.old nothing None)).design) }
+    ensures at { OnOk result (at.new ≡ (body_known id at.old names.old new.now (gives at.old names.old nothing None)).at) }
+{
+    let end = names.next_number()?;
+    let other = header_of(names, id);
+    names.take(Taken {
+        first: at.header,
+        end,
+        other,
+    })?;
+    at.function = Some(id);
+    at.result = new.mark;
+    at.header_end = end;
+    Ok(())
+}
+
+/// The body declares the function.
+fn body_entered(
+    names: &mut Names,
+    at: &mut At<'_>,
+    new: Declaration,
+) -> Result<Option<Refused>, AllocError>
+    ensures design { OnOk result (names.new ≡ (body_entered at.old names.old new (gives at.old names.old nothing None)).design) }
+    ensures at { OnOk result (at.new ≡ (body_entered at.old names.old new (gives at.old names.old nothing None)).at) }
+    ensures first { IfOk result (λ first. (other : Option Broken)
+        → lesser_refusal other first ≡ (body_entered at.old names.old new (gives at.old names.old nothing other)).first) }
+{
+    let number = names.next_number()?;
+    let id = DeclId::of(number);
+    let region = names.regions().round(at.region);
+    let mark = new.mark;
+    let first = enter(names, region, new)?;
+    note_span(names, id, at.header, at.region)?;
+    at.function = Some(id);
+    at.result = mark;
+    at.header_end = number;
+    Ok(first)
+}
+
+/// The one or the other.
+fn header_ends_as(
+    names: &mut Names,
+    at: &mut At<'_>,
+    known: Option<DeclId>,
+    new: Declaration,
+) -> Result<Option<Refused>, AllocError>
+    ensures design { OnOk result (names.new ≡ (header_ends_as known at.old names.old new (gives at.old names.old nothing None)).design) }
+    ensures at { OnOk result (at.new ≡ (header_ends_as known at.old names.old new (gives at.old names.old nothing None)).at) }
+    ensures first { IfOk result (λ first. (other : Option Broken)
+        → lesser_refusal other first ≡ (header_ends_as known at.old names.old new (gives at.old names.old nothing other)).first) }
+{
+    match known {
+        None => {
+            let first = body_entered(names, at, new)?;
+            Ok(first)
+        }
+        Some(id) => {
+            body_known(names, at, id, &new)?;
+            Ok(None)
+        }
+    }
+}
+
+/// The end of the header of a body, given what the type of its result came to, which is at hand.
+pub fn end_header(
+    alloc: Global,
+    names: &mut Names,
+    at: &mut At<'_>,
+    made: Made,
+) -> Result<Made, AllocError>
+    ensures is { IfOk result (λ ended. (store : List (Forest Node)) (tree : Forest Node) → Holds store made.tree tree
+        → IsMade store names.new ended (header_ends (gives at.old names.old tree made.first))) }
+    ensures at { OnOk result ((tree : Forest Node) → at.new ≡ (header_ends (gives at.old names.old tree made.first)).at) }
+{
+    let new = function_read(alloc, names, at, at.region)?;
+    let known = declaration_of_body(alloc, names, at, &new)?;
+    let first = header_ends_as(names, at, known, new)?;
+    Ok(Made {
+        tree: made.tree,
+        first: lesser(made.first, first),
+    })
+}
+
+/// The type of the result of a body, with which its header ends.
+pub fn result_mark<'a>(
+    alloc: Global,
+    names: &mut Names,
+    at: &mut At<'a>,
+    node: &Opened<'a, Form>,
+    out: &mut Store<Resolved>,
+) -> Result<Made, AllocError>
+    ensures is { IfOk result (λ made. IsMade out.new names.new made
+        (header_ends (mark at.old names.old node.now.place (more node.now.form node.now.text.now node.now.place node.now.parts nothing)))) }
+    ensures at { OnOk result (at.new
+        ≡ (header_ends (mark at.old names.old node.now.place (more node.now.form node.now.text.now node.now.place node.now.parts nothing))).at) }
+    ensures extends { Extends out.old out.new }
+{
+    fits_are_tests();
+    let mut single = Store::new(alloc);
+    let number = one_tree(node, &mut single)?;
+    let tree = single.cursor(number);
+    let found = named_as(alloc, names, at, Fit::Mark, node.place, &tree, out)?;
+    at.named = found.named;
+    at.mark = found.mark;
+    let made = Made {
+        tree: found.tree,
+        first: found.first,
+    };
+    let ended = end_header(alloc, names, at, made)?;
+    Ok(ended)
+}
