@@ -5,6 +5,6 @@ use Rattle.vd_name_states.specs.Designs.{Design}
 use Rattle.vd_name_states.specs.Entering.{Entering}
 
 -- the design behind it, and the first rule that is broken
-pub record IsEntered (d : Design) (first : Option Refused) (want : Entering) : Type 0 where
+pub record IsEntered (d : Design) (refused : Option Refused) (want : Entering) : Type 0 where
   pub design : d ≡ want.design
-  pub first : first ≡ want.first
+  pub first : refused ≡ want.first

@@ -42,15 +42,15 @@ pub fn enter_words(
     names: &mut Names,
     region: RegionId,
     class: &Class,
-    mark: Option<TypeId>,
+    mark: &Option<TypeId>,
     list: &Cursor<'_, Form>,
 ) -> Result<Option<Refused>, AllocError>
-    ensures { IfOk result (λ first. IsEntered names.new first (entering_words region class.now mark (words_of list.now) names.old)) }
+    ensures { IfOk result (λ first. IsEntered names.new first (entering_words region class.now mark.now (words_of list.now) names.old)) }
 {
     let mut first = None;
     let mut left = list.fork();
     while let Some(node) = left.open() {
-        let refused = enter_word(alloc, names, region, *class, mark, &node)?;
+        let refused = enter_word(alloc, names, region, *class, *mark, &node)?;
         first = lesser(first, refused);
         left = node.next;
     }

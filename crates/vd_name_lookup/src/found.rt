@@ -39,9 +39,10 @@ pub fn found_in(
 ) -> Result<Option<DeclId>, AllocError>
     ensures { IfOk result (λ found. found ≡ found_in region sort name.now names.now) }
 {
-    for id in named_in(alloc, names, region, name)? {
-        if sort.has(names.class_of(id)) {
-            return Ok(Some(id));
+    let found = named_in(alloc, names, region, name)?;
+    for id in &found {
+        if sort.has(names.class_of(*id)) {
+            return Ok(Some(*id));
         }
     }
     Ok(None)

@@ -1,8 +1,13 @@
-//! What a region declares under a name, units of `work` by their names, and what stands round a unit. (IEEE 1076, design units and their analysis)
+//! What a region declares under a name, units of `work` by their names, what stands round a unit, and tables of all units. (IEEE 1076, design
+//! units and their analysis)
 #![tactic(auto)]
 
+mod architectures;
+mod bodies;
 pub mod found;
-pub mod main;
+pub mod round;
+pub mod tables;
 
 pub use found::{found_in, found_inside, named_in, region_inside, unit_named};
-pub use main::{main_of, primary_of, round_unit};
+pub use round::{main_of, primary_of, round_unit};
+pub use tables::Units;
