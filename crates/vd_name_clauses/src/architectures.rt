@@ -1,6 +1,6 @@
 //! The architecture of an instance.
 
-ghost use Rattle.std.specs.Prelude.{◌≡◌, None, IfOk};
+ghost use Rattle.std.specs.Prelude.{◌≡◌, None, IfOk, OnOk};
 ghost use Rattle.vd_forest.specs.Forest.{nothing, more};
 ghost use Rattle.vd_forest.specs.Store.{Holds, Extends};
 ghost use Rattle.vd_naming.specs.Expressions.{resolved};
@@ -105,6 +105,7 @@ pub fn instance_architecture(
 ) -> Result<Made, AllocError>
     ensures is { IfOk result (λ made. IsMade out.new names.now made
         (instance_architecture_step units.now at.now names.now node.now.form node.now.text.now node.now.place)) }
+    ensures at { OnOk result ((instance_architecture_step units.now at.now names.now node.now.form node.now.text.now node.now.place).at ≡ at.now) }
     ensures extends { Extends out.old out.new }
 {
     match node.form {

@@ -139,6 +139,7 @@ pub fn context_name(
 ) -> Result<Made, AllocError>
     ensures is { IfOk result (λ made. IsMade out.new names.new made
         (context_name_step at.now names.old node.now.place (more node.now.form node.now.text.now node.now.place node.now.parts nothing))) }
+    ensures at { OnOk result ((context_name_step at.now names.old node.now.place (more node.now.form node.now.text.now node.now.place node.now.parts nothing)).at ≡ at.now) }
     ensures extends { Extends out.old out.new }
 {
     let found = context_of(alloc, names, at, node)?;

@@ -1,6 +1,6 @@
 //! Elements of a view.
 
-ghost use Rattle.std.specs.Prelude.{◌≡◌, IfOk};
+ghost use Rattle.std.specs.Prelude.{◌≡◌, IfOk, OnOk};
 ghost use Rattle.vd_forest.specs.Store.{Holds, Extends};
 ghost use Rattle.vd_naming.specs.Units.{region_inside as inside_of_declaration};
 ghost use Rattle.vd_naming.specs.Views.{element_named as named_element, missing_element as element_missing, names_of_elements, missing_elements, element_names as element_names_step};
@@ -100,6 +100,7 @@ pub fn element_names(
 ) -> Result<Made, AllocError>
     ensures is { IfOk result (λ made. IsMade out.new names.now made
         (element_names_step at.now names.now node.now.form node.now.text.now node.now.place node.now.parts)) }
+    ensures at { OnOk result ((element_names_step at.now names.now node.now.form node.now.text.now node.now.place node.now.parts).at ≡ at.now) }
     ensures extends { Extends out.old out.new }
 {
     let list = elements(alloc, names, &at.viewed, &node.parts, out)?;

@@ -1,6 +1,6 @@
 //! Library clauses.
 
-ghost use Rattle.std.specs.Prelude.{◌≡◌, Some, IfOk};
+ghost use Rattle.std.specs.Prelude.{◌≡◌, Some, IfOk, OnOk};
 ghost use Rattle.vd_forest.specs.Store.{Extends};
 ghost use Rattle.vd_naming.specs.Units.{library_named as library_of_name, library_as as library_clause, library_word as library_word_step};
 ghost use Rattle.vd_name_outcomes.specs.Made.{IsMade};
@@ -61,6 +61,7 @@ pub fn library_word(
 ) -> Result<Made, AllocError>
     ensures is { IfOk result (λ made. IsMade out.new names.new made
         (library_word_step at.now names.old node.now.form node.now.text.now node.now.place)) }
+    ensures at { OnOk result ((library_word_step at.now names.old node.now.form node.now.text.now node.now.place).at ≡ at.now) }
     ensures extends { Extends out.old out.new }
 {
     match library_named(node.text) {

@@ -165,6 +165,7 @@ pub fn use_name(
 ) -> Result<Made, AllocError>
     ensures is { IfOk result (λ made. IsMade out.new names.new made
         (use_name_step at.now names.old node.now.place (more node.now.form node.now.text.now node.now.place node.now.parts nothing))) }
+    ensures at { OnOk result ((use_name_step at.now names.old node.now.place (more node.now.form node.now.text.now node.now.place node.now.parts nothing)).at ≡ at.now) }
     ensures extends { Extends out.old out.new }
 {
     let found = package_of(alloc, names, at, node)?;

@@ -91,6 +91,7 @@ pub fn label_name(
     out: &mut Store<Resolved>,
 ) -> Result<Made, AllocError>
     ensures is { IfOk result (λ made. IsMade out.new names.now made (label_name_step at.now names.now node.now.form node.now.text.now node.now.place)) }
+    ensures at { OnOk result ((label_name_step at.now names.now node.now.form node.now.text.now node.now.place).at ≡ at.now) }
     ensures extends { Extends out.old out.new }
 {
     match node.form {

@@ -118,6 +118,7 @@ pub fn converse(
     out: &mut Store<Resolved>,
 ) -> Result<Made, AllocError>
     ensures is { IfOk result (λ made. IsMade out.new names.now made (converse_step at.now names.now node.now.form node.now.text.now node.now.place)) }
+    ensures at { OnOk result ((converse_step at.now names.now node.now.form node.now.text.now node.now.place).at ≡ at.now) }
     ensures extends { Extends out.old out.new }
 {
     let tree = add_node(node, None, None, 0, out)?;

@@ -25,6 +25,7 @@ pub fn skipped(
 ) -> Result<Made, AllocError>
     ensures is { IfOk result (λ made. IsMade out.new names.now made
         (skipped_step at.now names.now (more node.now.form node.now.text.now node.now.place node.now.parts nothing))) }
+    ensures at { OnOk result ((skipped_step at.now names.now (more node.now.form node.now.text.now node.now.place node.now.parts nothing)).at ≡ at.now) }
     ensures extends { Extends out.old out.new }
 {
     let tree = unresolved_node(alloc, node, out)?;
