@@ -1,0 +1,4 @@
+pub mod ElementLemmas
+pub mod LibraryLemmas
+pub mod MeantLemmas
+pub mod PieceLemmas

@@ -1,0 +1,2 @@
+pub mod Generics
+pub mod Pieces
