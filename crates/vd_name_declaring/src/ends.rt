@@ -38,7 +38,8 @@ pub fn first_ends(
     ensures is { IfOk result (λ made. IsMade out.new names.now made (first_declared (seen_ended out.old names.now ended.now))) }
     ensures extends { Extends out.old out.new }
 {
-    let parameter = DeclId::of(ended.inside.next);
+    let inside = ended.inside;
+    let parameter = DeclId::of(inside.next);
     let made = finished(ended, Some(parameter), None, ended.inner.tree, None, out)?;
     Ok(made)
 }
@@ -53,8 +54,8 @@ pub fn typed_ends(
     ensures is { IfOk result (λ made. IsMade out.new names.now made (typed_node (seen_ended out.old names.now ended.now))) }
     ensures extends { Extends out.old out.new }
 {
-    let mark = ended.inner.at.mark;
-    let made = finished(ended, None, mark, ended.inner.tree, None, out)?;
+    let inner = ended.inner;
+    let made = finished(ended, None, inner.at.mark, inner.tree, None, out)?;
     Ok(made)
 }
 

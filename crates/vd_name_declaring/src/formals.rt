@@ -22,16 +22,23 @@ fn form_at(number: u32, parts: &Cursor<'_, Form>) -> Form
     }
 }
 
+/// The mode of a port or generic without a view that has this word for it.
+fn mode_written(word: Form) -> Form
+    ensures { result ≡ mode_by Form.In word }
+{
+    match word {
+        Form::Absent => Form::In,
+        _ => word,
+    }
+}
+
 /// The mode of a port or generic of a form with this word for its mode.
 fn mode_of(form: Form, word: Form) -> Form
     ensures { result ≡ mode_by form word }
 {
     match form {
         Form::ViewPort => Form::ViewMode,
-        _ => match word {
-            Form::Absent => Form::In,
-            _ => word,
-        },
+        _ => mode_written(word),
     }
 }
 

@@ -54,12 +54,13 @@ fn misfits(names: &Names, ended: &Ended<'_, '_>) -> bool
     ensures { (store : List (Forest Resolved))
         → result ≡ indication_misfits (seen_ended store names.now ended.now) ended.now.inner.now.at.mark }
 {
-    match ended.inner.at.mark {
+    let inner = ended.inner;
+    match inner.at.mark {
         None => false,
         Some(mark) => {
             let class = names.class_of(DeclId::of(mark.number()));
             let form = form_of_next(&ended.node.parts);
-            !can_be_narrower(form, names, &class, ended.inner.at.named)
+            !can_be_narrower(form, names, &class, inner.at.named)
         }
     }
 }

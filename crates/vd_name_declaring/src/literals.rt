@@ -35,7 +35,10 @@ fn add_numbered(
         declaration: Some(DeclId::of(number)),
         ..node.form
     };
-    out.add(form, text.as_slice(), node.place, node.parts, next)
+    let place = node.place;
+    let parts = node.parts;
+    let made = out.add(form, text.as_slice(), place, parts, next)?;
+    Ok(made)
 }
 
 /// Some trees with numbers, the first with this one.
@@ -78,9 +81,12 @@ fn with_numbered_parts(
         return Ok(0);
     };
     let text = Text::from_slice(alloc, node.text)?;
-    let (form, place, parts, next) = (node.form, node.place, node.parts, node.next);
+    let form = node.form;
+    let place = node.place;
+    let literals = node.parts;
+    let next = node.next;
     let first = number_behind(number)?;
-    let parts = numbered(alloc, first, parts, out)?;
+    let parts = numbered(alloc, first, literals, out)?;
     let made = out.add(form, text.as_slice(), place, parts, next)?;
     Ok(made)
 }

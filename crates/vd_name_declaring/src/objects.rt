@@ -27,11 +27,11 @@ pub fn enter_objects(
     class: &Class,
     form: Form,
     parts: &Cursor<'_, Form>,
-    mark: Option<TypeId>,
+    mark: &Option<TypeId>,
     list: &Cursor<'_, Form>,
 ) -> Result<Option<Refused>, AllocError>
     ensures { IfOk result (λ first. IsEntered names.new first
-        (entering_objects region class.now form parts.now mark (words_of list.now) names.old)) }
+        (entering_objects region class.now form parts.now mark.now (words_of list.now) names.old)) }
 {
     let number = names.next_number()?;
     let first = enter_words(alloc, names, region, class, mark, list)?;
@@ -53,17 +53,18 @@ pub fn objects_end(
         (objects_declared class.now number (seen_ended out.old names.old ended.now))) }
     ensures extends { Extends out.old out.new }
 {
-    let node = ended.node;
+    let (node, outer, inner) = (ended.node, ended.outer, ended.inner);
+    let list = node.parts.skip(number).parts();
     let first = enter_objects(
         alloc,
         names,
-        ended.outer.region,
+        outer.region,
         class,
         node.form,
         &node.parts,
-        ended.inner.at.mark,
-        &node.parts.skip(number).parts(),
+        &inner.at.mark,
+        &list,
     )?;
-    let made = finished(ended, None, None, ended.inner.tree, first, out)?;
+    let made = finished(ended, None, None, inner.tree, first, out)?;
     Ok(made)
 }

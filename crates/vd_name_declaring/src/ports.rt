@@ -44,7 +44,7 @@ pub fn enter_ports(
             &Class::Port,
             part.form,
             &part.parts,
-            node.mark,
+            &node.mark,
             &list,
         )?;
         first = lesser(first, refused);
@@ -65,8 +65,9 @@ pub fn ports_end(
     ensures is { IfOk result (λ made. IsMade out.new names.new made (ports_declared (seen_ended out.old names.old ended.now))) }
     ensures extends { Extends out.old out.new }
 {
+    let outer = ended.outer;
     let nodes = out.cursor(ended.inner.tree);
-    let first = enter_ports(alloc, names, ended.outer.region, &ended.node.parts, &nodes)?;
+    let first = enter_ports(alloc, names, outer.region, &ended.node.parts, &nodes)?;
     let made = finished(ended, None, None, ended.inner.tree, first, out)?;
     Ok(made)
 }

@@ -34,7 +34,8 @@ fn has_index_constraint(parts: &Cursor<'_, Form>) -> bool
 fn is_narrow(names: &Names, ended: &Ended<'_, '_>) -> bool
     ensures { (store : List (Forest Resolved)) → result ≡ has_some_bounds (seen_ended store names.now ended.now) }
 {
-    has_index_constraint(&ended.node.parts) || is_bounded(names, ended.inner.at.named)
+    let inner = ended.inner;
+    has_index_constraint(&ended.node.parts) || is_bounded(names, inner.at.named)
 }
 
 /// Declares a subtype.
@@ -48,15 +49,16 @@ pub fn subtype_ends(
     ensures is { IfOk result (λ made. IsMade out.new names.new made (subtype_declared (seen_ended out.old names.old ended.now))) }
     ensures extends { Extends out.old out.new }
 {
+    let (outer, inner) = (ended.outer, ended.inner);
     let number = names.next_number()?;
     let narrow = is_narrow(names, ended);
     note_bounds(names, narrow, DeclId::of(number))?;
     let class = Class::Subtype {
-        mark: declaration_or_zero(ended.inner.at.named),
+        mark: declaration_or_zero(inner.at.named),
     };
-    let declared = declared_word(alloc, &class, ended, ended.inner.at.mark)?;
-    let first = enter(names, ended.outer.region, declared)?;
+    let declared = declared_word(alloc, &class, ended, inner.at.mark)?;
+    let first = enter(names, outer.region, declared)?;
     let own = Some(DeclId::of(number));
-    let made = finished(ended, own, None, ended.inner.tree, first, out)?;
+    let made = finished(ended, own, None, inner.tree, first, out)?;
     Ok(made)
 }

@@ -52,13 +52,14 @@ fn enter_enumeration(
         (entering_enumeration ended.now.outer.now.region (record { name = ended.now.inner.now.at.word; place = ended.now.inner.now.at.word_place })
         (words_of (parts_of (next_of ended.now.node.now.parts))) names.old)) }
 {
-    let region = ended.outer.region;
+    let outer = ended.outer;
+    let region = outer.region;
     let own = TypeId::of(names.next_number()?);
     let declared = declared_word(alloc, &Class::EnumerationType, ended, None)?;
     let first = enter(names, region, declared)?;
     let literals = ended.node.parts.next().parts();
     let class = Class::EnumerationLiteral;
-    let refused = enter_words(alloc, names, region, &class, Some(own), &literals)?;
+    let refused = enter_words(alloc, names, region, &class, &Some(own), &literals)?;
     names.bring_operators(region, own, Class::EnumerationType)?;
     Ok(lesser(first, refused))
 }
@@ -125,10 +126,11 @@ pub(crate) fn note_bounds(
 fn array_class(ended: &Ended<'_, '_>, definition: &Cursor<'_, Resolved>) -> Class
     ensures { (store : List (Forest Resolved)) (d : Design) → result ≡ class_of_array (seen_ended store d ended.now) definition.now }
 {
+    let inner = ended.inner;
     Class::ArrayType {
         index: type_or_zero(mark_of(&definition.parts())),
-        element: type_or_zero(ended.inner.at.mark),
-        element_mark: declaration_or_zero(ended.inner.at.named),
+        element: type_or_zero(inner.at.mark),
+        element_mark: declaration_or_zero(inner.at.named),
     }
 }
 
@@ -147,7 +149,8 @@ fn enter_array(
     note_bounds(names, bounded, DeclId::of(names.next_number()?))?;
     let class = array_class(ended, &out.cursor(ended.inner.tree).next());
     let declared = declared_word(alloc, &class, ended, None)?;
-    enter_type(names, ended.outer.region, declared)
+    let outer = ended.outer;
+    enter_type(names, outer.region, declared)
 }
 
 /// A record type, whose elements stand in its region.
@@ -158,7 +161,8 @@ fn record_of(
 ) -> Result<Declaration, AllocError>
     ensures { IfOk result (λ made. (store : List (Forest Resolved)) → made ≡ declared_record (seen_ended store names.now ended.now) names.now) }
 {
-    let region = ended.inside.region;
+    let inside = ended.inside;
+    let region = inside.region;
     let elements = names.declared_in(alloc, region, Sort::Element)?;
     let mut declared = declared_word(alloc, &Class::RecordType, ended, None)?;
     declared.parameters = Declarations::of(elements);
@@ -186,9 +190,10 @@ fn enter_record(
     ensures { IfOk result (λ first. (store : List (Forest Resolved))
         → IsEntered names.new first (entering_record (seen_ended store names.old ended.now) names.old)) }
 {
+    let (outer, inside) = (ended.outer, ended.inside);
     let declared = record_of(alloc, names, ended)?;
-    close(names, ended.inside.region)?;
-    enter_type(names, ended.outer.region, declared)
+    close(names, inside.region)?;
+    enter_type(names, outer.region, declared)
 }
 
 /// Enters what a definition of a form defines.

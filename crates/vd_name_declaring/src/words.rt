@@ -18,12 +18,13 @@ pub fn declared_word(
     ensures { IfOk result (λ made. made ≡
         declaration_of class.now (record { name = ended.now.inner.now.at.word; place = ended.now.inner.now.at.word_place }) mark) }
 {
-    let name = ended.inner.at.word.name(alloc)?;
+    let inner = ended.inner;
+    let name = inner.at.word.name(alloc)?;
     new_declaration(
         alloc,
         *class,
         name.as_slice(),
-        ended.inner.at.word_place,
+        inner.at.word_place,
         mark,
     )
 }
