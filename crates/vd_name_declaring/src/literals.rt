@@ -113,6 +113,7 @@ fn literals_numbered(
 }
 
 /// The parts of a type declaration, in which the literals of an enumeration type have numbers.
+#[tactic(auto, using(crate::proofs::NumberLemmas::relinked, vd_forest::proofs::StoreLemmas::growing))]
 pub(crate) fn with_literals(
     alloc: Global,
     form: Form,
@@ -124,10 +125,10 @@ pub(crate) fn with_literals(
     ensures holds { IfOk result (λ made. Holds out.new made (numbered_in_definition form number (at out.old parts))) }
     ensures extends { Extends out.old out.new }
 {
-    if parts == 0 {
+    let Some(word) = out.head(parts) else {
         return Ok(0);
-    }
-    let definition = out.after(parts);
+    };
+    let definition = word.next;
     let numbered = literals_numbered(alloc, form, number, definition, out)?;
     let made = out.relink(parts, numbered)?;
     Ok(made)

@@ -1,10 +1,12 @@
 //! Subtypes. (IEEE 1076, subtype declarations)
 
-ghost use Rattle.std.specs.Prelude.{◌≡◌, ◌≤◌, List, IfOk, length};
-ghost use Rattle.vd_forest.specs.Forest.{Forest};
+ghost use Rattle.std.specs.Prelude.{◌≡◌, ◌≤◌, ◌||◌, IfOk, length};
 ghost use Rattle.vd_forest.specs.Store.{Extends};
-ghost use Rattle.vd_resolved.specs.declared.node.Resolved.{Resolved};
-ghost use Rattle.vd_naming.specs.Endings.{has_index_constraint as is_constrained, is_narrow as has_some_bounds, subtype_ends as subtype_declared};
+ghost use Rattle.vd_name_entering.specs.Entered.{IsEntered};
+ghost use Rattle.vd_name_states.specs.Entering.{declaration_of, entering};
+ghost use Rattle.vd_name_states.specs.Members.{next_number};
+ghost use Rattle.vd_name_states.specs.Noting.{with_bounds};
+ghost use Rattle.vd_naming.specs.Endings.{has_index_constraint as is_constrained, is_bounded as has_bounds_of, or_zero, subtype_ends as subtype_declared};
 ghost use Rattle.vd_name_outcomes.specs.Ended.{seen_ended};
 ghost use Rattle.vd_name_outcomes.specs.Made.{IsMade};
 
@@ -12,6 +14,7 @@ use crate::indications::{form_of_next, is_bounded};
 use crate::types::{declaration_or_zero, note_bounds};
 use crate::words::declared_word;
 use std::alloc::{AllocError, Global};
+use vd_bytes::Refused;
 use vd_declarations::{Class, DeclId};
 use vd_forest::{Cursor, Store};
 use vd_forms::Form;
@@ -32,10 +35,33 @@ fn has_index_constraint(parts: &Cursor<'_, Form>) -> bool
 
 /// Whether a subtype has bounds, of its own or those of its mark.
 fn is_narrow(names: &Names, ended: &Ended<'_, '_>) -> bool
-    ensures { (store : List (Forest Resolved)) → result ≡ has_some_bounds (seen_ended store names.now ended.now) }
+    ensures { result ≡ (is_constrained ended.now.node.now.parts || has_bounds_of names.now ended.now.inner.now.at.named) }
 {
     let inner = ended.inner;
     has_index_constraint(&ended.node.parts) || is_bounded(names, inner.at.named)
+}
+
+/// Enters a subtype.
+fn enter_subtype(
+    alloc: Global,
+    names: &mut Names,
+    ended: &Ended<'_, '_>,
+) -> Result<Option<Refused>, AllocError>
+    ensures { IfOk result (λ first. IsEntered names.new first
+        (entering ended.now.outer.now.region
+        (declaration_of (Class.Subtype (or_zero ended.now.inner.now.at.named)) (record { name = ended.now.inner.now.at.word; place = ended.now.inner.now.at.word_place }) ended.now.inner.now.at.mark)
+        (with_bounds (is_constrained ended.now.node.now.parts || has_bounds_of names.old ended.now.inner.now.at.named) (next_number names.old) names.old))) }
+{
+    let (outer, inner) = (ended.outer, ended.inner);
+    let number = names.next_number()?;
+    let narrow = is_narrow(names, ended);
+    note_bounds(names, narrow, DeclId::of(number))?;
+    let class = Class::Subtype {
+        mark: declaration_or_zero(inner.at.named),
+    };
+    let declared = declared_word(alloc, &class, ended, inner.at.mark)?;
+    let first = enter(names, outer.region, declared)?;
+    Ok(first)
 }
 
 /// Declares a subtype.
@@ -49,16 +75,9 @@ pub fn subtype_ends(
     ensures is { IfOk result (λ made. IsMade out.new names.new made (subtype_declared (seen_ended out.old names.old ended.now))) }
     ensures extends { Extends out.old out.new }
 {
-    let (outer, inner) = (ended.outer, ended.inner);
     let number = names.next_number()?;
-    let narrow = is_narrow(names, ended);
-    note_bounds(names, narrow, DeclId::of(number))?;
-    let class = Class::Subtype {
-        mark: declaration_or_zero(inner.at.named),
-    };
-    let declared = declared_word(alloc, &class, ended, inner.at.mark)?;
-    let first = enter(names, outer.region, declared)?;
+    let first = enter_subtype(alloc, names, ended)?;
     let own = Some(DeclId::of(number));
-    let made = finished(ended, own, None, inner.tree, first, out)?;
+    let made = finished(ended, own, None, ended.inner.tree, first, out)?;
     Ok(made)
 }

@@ -1,15 +1,14 @@
 //! Types. (IEEE 1076, type declarations; enumeration types; array types; record types)
 
-ghost use Rattle.std.specs.Prelude.{◌≡◌, ◌≤◌, List, IfOk, OnOk, length};
-ghost use Rattle.vd_forest.specs.Forest.{Forest, next_of, parts_of};
+ghost use Rattle.std.specs.Prelude.{◌≡◌, ◌≤◌, Some, None, IfOk, OnOk, length};
+ghost use Rattle.vd_forest.specs.Forest.{next_of, parts_of};
 ghost use Rattle.vd_forest.specs.Store.{at, Extends};
 ghost use Rattle.vd_name_entering.specs.Entered.{IsEntered};
-ghost use Rattle.vd_name_states.specs.Entering.{words_of};
+ghost use Rattle.vd_name_states.specs.Entering.{words_of, declaration_of};
 ghost use Rattle.vd_name_states.specs.Noting.{with_bounds};
-ghost use Rattle.vd_resolved.specs.declared.node.Resolved.{Resolved};
-ghost use Rattle.vd_name_states.specs.Designs.{Design};
+ghost use Rattle.vd_name_states.specs.Members.{declared_in};
 ghost use Rattle.vd_naming.specs.Expressions.{mark_of as mark_of_first};
-ghost use Rattle.vd_naming.specs.Endings.{word_of, closed, form_of_next as form_behind, or_zero, has_range as has_index_range, array_class as class_of_array, entering_type, entering_enumeration, entering_array, record_of as declared_record, entering_record, entering_definition, type_ends as type_declared};
+ghost use Rattle.vd_naming.specs.Endings.{closed, or_zero, has_range as has_index_range, entering_type, entering_enumeration, entering_array, entering_definition, type_ends as type_declared};
 ghost use Rattle.vd_name_outcomes.specs.Ended.{seen_ended};
 ghost use Rattle.vd_name_outcomes.specs.Made.{IsMade};
 
@@ -124,7 +123,7 @@ pub(crate) fn note_bounds(
 
 /// An array type of this definition.
 fn array_class(ended: &Ended<'_, '_>, definition: &Cursor<'_, Resolved>) -> Class
-    ensures { (store : List (Forest Resolved)) (d : Design) → result ≡ class_of_array (seen_ended store d ended.now) definition.now }
+    ensures { result ≡ Class.ArrayType (or_zero (mark_of_first (parts_of definition.now))) (or_zero ended.now.inner.now.at.mark) (or_zero ended.now.inner.now.at.named) }
 {
     let inner = ended.inner;
     Class::ArrayType {
@@ -150,7 +149,8 @@ fn enter_array(
     let class = array_class(ended, &out.cursor(ended.inner.tree).next());
     let declared = declared_word(alloc, &class, ended, None)?;
     let outer = ended.outer;
-    enter_type(names, outer.region, declared)
+    let first = enter_type(names, outer.region, declared)?;
+    Ok(first)
 }
 
 /// A record type, whose elements stand in its region.
@@ -159,7 +159,8 @@ fn record_of(
     names: &Names,
     ended: &Ended<'_, '_>,
 ) -> Result<Declaration, AllocError>
-    ensures { IfOk result (λ made. (store : List (Forest Resolved)) → made ≡ declared_record (seen_ended store names.now ended.now) names.now) }
+    ensures { IfOk result (λ made. made ≡ record (declaration_of Class.RecordType (record { name = ended.now.inner.now.at.word; place = ended.now.inner.now.at.word_place }) None)
+        { parameters = declared_in ended.now.inside.now.region Sort.Element names.now; inside = Some ended.now.inside.now.region }) }
 {
     let inside = ended.inside;
     let region = inside.region;
@@ -187,13 +188,17 @@ fn enter_record(
     names: &mut Names,
     ended: &Ended<'_, '_>,
 ) -> Result<Option<Refused>, AllocError>
-    ensures { IfOk result (λ first. (store : List (Forest Resolved))
-        → IsEntered names.new first (entering_record (seen_ended store names.old ended.now) names.old)) }
+    ensures { IfOk result (λ first. IsEntered names.new first
+        (entering_type ended.now.outer.now.region
+        (record (declaration_of Class.RecordType (record { name = ended.now.inner.now.at.word; place = ended.now.inner.now.at.word_place }) None)
+        { parameters = declared_in ended.now.inside.now.region Sort.Element names.old; inside = Some ended.now.inside.now.region })
+        (closed ended.now.inside.now.region names.old))) }
 {
     let (outer, inside) = (ended.outer, ended.inside);
     let declared = record_of(alloc, names, ended)?;
     close(names, inside.region)?;
-    enter_type(names, outer.region, declared)
+    let first = enter_type(names, outer.region, declared)?;
+    Ok(first)
 }
 
 /// Enters what a definition of a form defines.
