@@ -27,10 +27,7 @@ use vd_resolved::Resolved;
 fn has_index_constraint(parts: &Cursor<'_, Form>) -> bool
     ensures { result ≡ is_constrained parts.now }
 {
-    matches!(
-        form_of_next(&parts.next().parts()),
-        Form::IndexConstraint
-    )
+    matches!(form_of_next(&parts.next().parts()), Form::IndexConstraint)
 }
 
 /// Whether a subtype has bounds, of its own or those of its mark.

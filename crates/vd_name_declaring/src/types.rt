@@ -104,11 +104,7 @@ fn has_range(index: &Cursor<'_, Form>) -> bool
 }
 
 /// Notes that an array type or subtype has bounds, where it has.
-pub(crate) fn note_bounds(
-    names: &mut Names,
-    bounded: bool,
-    id: DeclId,
-) -> Result<(), AllocError>
+pub(crate) fn note_bounds(names: &mut Names, bounded: bool, id: DeclId) -> Result<(), AllocError>
     ensures { OnOk result (names.new ≡ with_bounds bounded id names.old) }
 {
     if !bounded {
@@ -154,11 +150,7 @@ fn enter_array(
 }
 
 /// A record type, whose elements stand in its region.
-fn record_of(
-    alloc: Global,
-    names: &Names,
-    ended: &Ended<'_, '_>,
-) -> Result<Declaration, AllocError>
+fn record_of(alloc: Global, names: &Names, ended: &Ended<'_, '_>) -> Result<Declaration, AllocError>
     ensures { IfOk result (λ made. made ≡ record (declaration_of Class.RecordType (record { name = ended.now.inner.now.at.word; place = ended.now.inner.now.at.word_place }) None)
         { parameters = declared_in ended.now.inside.now.region Sort.Element names.now; inside = Some ended.now.inside.now.region }) }
 {

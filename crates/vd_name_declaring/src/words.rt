@@ -20,11 +20,5 @@ pub fn declared_word(
 {
     let inner = ended.inner;
     let name = inner.at.word.name(alloc)?;
-    new_declaration(
-        alloc,
-        *class,
-        name.as_slice(),
-        inner.at.word_place,
-        mark,
-    )
+    new_declaration(alloc, *class, name.as_slice(), inner.at.word_place, mark)
 }
