@@ -1,0 +1,22 @@
+//! What forms declare at their ends: objects, ports, types and subtypes, and what is noted of them. (IEEE 1076, declarations; types;
+//! subtype declarations)
+#![tactic(auto)]
+
+pub mod ends;
+mod formals;
+pub mod indications;
+mod literals;
+mod numbers;
+pub mod objects;
+pub mod ports;
+pub mod subtypes;
+pub mod types;
+pub mod words;
+
+pub use ends::{clause_ends, first_ends, nothing_ends, typed_ends};
+pub use indications::{form_of_next, indication_ends, is_bounded};
+pub use objects::{enter_objects, objects_end};
+pub use ports::{enter_ports, ports_end};
+pub use subtypes::subtype_ends;
+pub use types::{enter_type, type_ends};
+pub use words::declared_word;
