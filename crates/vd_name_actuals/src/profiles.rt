@@ -57,18 +57,17 @@ fn same_type(one: Option<TypeId>, other: Option<TypeId>) -> bool
 }
 
 /// Whether types are the same, one by one.
+#[tactic(auto, using(crate::proofs::TypeLemmas::of_other_lengths))]
 fn same_types(one: &[Option<TypeId>], other: &[Option<TypeId>]) -> bool
     ensures { result ≡ are_same_list one.now other.now }
 {
     if one.len() != other.len() {
         return false;
     }
-    let mut next = 0;
-    while next < one.len() {
-        if !same_type(one[next], other[next]) {
+    for (index, mark) in one.iter().enumerate() {
+        if !same_type(*mark, other[index]) {
             return false;
         }
-        next += 1;
     }
     true
 }

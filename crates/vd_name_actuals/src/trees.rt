@@ -1,6 +1,6 @@
 //! Trees of actuals that are functions: the last piece has the function.
 
-ghost use Rattle.std.specs.Prelude.{◌≡◌, ◌≤◌, IfOk, Some, length};
+ghost use Rattle.std.specs.Prelude.{◌≡◌, ◌≤◌, true, IfOk, Some, None, length};
 ghost use Rattle.vd_forest.specs.Forest.{nothing, more};
 ghost use Rattle.vd_forest.specs.Store.{at, Holds, Extends};
 ghost use Rattle.vd_sights.specs.Sights.{sight_from};

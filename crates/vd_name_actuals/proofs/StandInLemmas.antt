@@ -1,0 +1,2 @@
+-- A table of generics and their actuals.
+use Rattle.std.proofs.Common.{◌≡◌, ℕ}
