@@ -1,2 +1,3 @@
+pub mod KindLemmas
 pub mod TypeLemmas
-pub mod StandInLemmas
+pub mod TypeOutcomeLemmas

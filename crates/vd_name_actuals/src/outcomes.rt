@@ -5,6 +5,7 @@ ghost use Rattle.vd_forest.specs.Forest.{nothing, with_next};
 ghost use Rattle.vd_forest.specs.Store.{Extends};
 ghost use Rattle.std.specs.Prelude.{◌≡◌};
 ghost use Rattle.vd_sights.specs.Sights.{sight_from, class_of};
+ghost use Rattle.vd_naming.specs.Associations.{is_open as stands_open};
 ghost use Rattle.vd_naming.specs.Actuals.{type_outcome as outcome_of_type, function_outcome as outcome_of_function, constant_outcome as outcome_of_constant, outcome_for as outcome_of};
 ghost use Rattle.vd_name_outcomes.specs.Made.{IsMade};
 ghost use Rattle.vd_name_actuals.specs.Kinds.{by_class, no_type_at, pieces_at};
@@ -75,7 +76,8 @@ fn type_outcome(
     ensures extends { Extends out.old out.new }
 {
     let pieces = refused_names_of(alloc, names, at, actual)?;
-    match only_mark(alloc, names, at, actual, out)? {
+    let found = only_mark(alloc, names, at, actual, out)?;
+    match found {
         Some(tree) => Ok(Made {
             tree,
             first: pieces,
@@ -166,6 +168,13 @@ fn by_class(
     }
 }
 
+/// Whether an actual is `open`.
+pub fn is_open(actual: &Cursor<'_, Form>) -> bool
+    ensures { result ≡ stands_open actual.now }
+{
+    matches!(actual.form(), Some(Form::Open))
+}
+
 /// What the actual of a generic comes to, where its element has this place. Nothing is said of `open` here.
 pub fn outcome_for(
     alloc: Global,
@@ -181,7 +190,7 @@ pub fn outcome_for(
         (outcome_of (class_of (sight_from known.now.place.now) generic) at.now known.now.names.now (seen_known known.now) generic place actual.now)) }
     ensures extends { Extends out.old out.new }
 {
-    if let Some(Form::Open) = actual.form() {
+    if is_open(actual) {
         let tree = unresolved(alloc, actual, out)?;
         return Ok(Made { tree, first: None });
     }

@@ -38,9 +38,10 @@ pub fn profile_in(
 ) -> Result<Vec<Option<TypeId>>, AllocError>
     ensures { IfOk result (λ marks. marks.items ≡ profile_as_known (seen_known known.now) function) }
 {
+    let own = profile(alloc, known.place, function)?;
     let mut marks = Vec::new(alloc);
-    for mark in profile(alloc, known.place, function)? {
-        marks.push(known.mark_in(mark))?;
+    for mark in own.as_slice() {
+        marks.push(known.mark_in(*mark))?;
     }
     Ok(marks)
 }
@@ -105,11 +106,12 @@ pub(crate) fn of_profile(
 ) -> Result<Vec<DeclId>, AllocError>
     ensures { IfOk result (λ found. found.items ≡ with_profile (sight_from place.now) wanted.now ids.now) }
 {
+    let functions = functions_among(alloc, place, ids)?;
     let mut found = Vec::new(alloc);
-    for id in functions_among(alloc, place, ids)? {
-        let own = profile(alloc, place, id)?;
+    for id in functions.as_slice() {
+        let own = profile(alloc, place, *id)?;
         if same_types(wanted, own.as_slice()) {
-            found.push(id)?;
+            found.push(*id)?;
         }
     }
     Ok(found)

@@ -21,13 +21,13 @@ use Rattle.vd_name_reading.specs.Reads.{IsRead, interpreted, refused_whole, read
 use Rattle.vd_name_reading.specs.declared.reading.Read.{Read}
 
 -- a list that hasn't exactly one member
-left_out : (tree : Forest Form) (rs : List (Forest Resolved)) → IsNotOne rs → only_reading tree rs ≡ unresolved tree
+pub left_out : (tree : Forest Form) (rs : List (Forest Resolved)) → IsNotOne rs → only_reading tree rs ≡ unresolved tree
 left_out tree [] none = refl
 left_out tree (r ∷ []) (inl none) = absurd (omega (arith, ap length none))
 left_out tree (r ∷ []) (inr several) = absurd (omega (arith, several))
 left_out tree (r ∷ other ∷ rs) several = refl
 
-refused_whole_list : (r : Option Refused) (rs : List (Forest Resolved)) → IsNotOne rs → refused_unless_one r rs ≡ r
+pub refused_whole_list : (r : Option Refused) (rs : List (Forest Resolved)) → IsNotOne rs → refused_unless_one r rs ≡ r
 refused_whole_list r [] none = refl
 refused_whole_list r (x ∷ []) (inl none) = absurd (omega (arith, ap length none))
 refused_whole_list r (x ∷ []) (inr several) = absurd (omega (arith, several))

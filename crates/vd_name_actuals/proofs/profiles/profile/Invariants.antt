@@ -5,4 +5,4 @@ use Rattle.vd_name_actuals.proofs.profiles.profile.Given as goal
 
 abbrev pub invariant-loop-parameter : goal.invariant-loop-parameter
 invariant-loop-parameter l =
-    l.marks.items ++ map (mark_of (sight_from l.place)) (drop l.parameter-index (parameters_of (sight_from l.place) l.function)) ≡ profile (sight_from l.place) l.function
+    l.marks.items ++ map (mark_of (sight_from l.place)) (drop l.parameter-index (parameters_of (sight_from l.place) l.fn.function)) ≡ profile (sight_from l.place) l.fn.function

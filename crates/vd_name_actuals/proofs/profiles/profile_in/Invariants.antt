@@ -5,4 +5,4 @@ use Rattle.vd_name_actuals.proofs.profiles.profile_in.Given as goal
 
 abbrev pub invariant-loop-mark : goal.invariant-loop-mark
 invariant-loop-mark l =
-    l.marks.items ++ map (mark_in (seen_known l.known)) (drop l.mark-index l.mark-items) ≡ profile_in (seen_known l.known) l.function
+    l.marks.items ++ map (mark_in (seen_known l.known)) (drop l.mark-index l.mark-items) ≡ profile_in (seen_known l.known) l.fn.function
