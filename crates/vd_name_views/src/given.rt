@@ -65,14 +65,14 @@ impl Given {
     }
 
     /// What some names name. After an Err nothing is known of any.
-    #[tactic(auto, using(crate::proofs::CountLemmas::adding))]
+    #[tactic(auto, using(crate::proofs::CountLemmas::names_begun, crate::proofs::CountLemmas::names_counted, crate::proofs::CountLemmas::all_counted))]
     fn add_names(&mut self, names: &Cursor<'_, Resolved>) -> Result<(), AllocError>
         ensures { OnOk result (AreAdded self.old self.new (declarations_of names.now)) }
     {
         let mut left = names.fork();
-        while let Some(name) = left.form() {
-            self.add_named(name.declaration)?;
-            left = left.next();
+        while let Some(name) = left.open() {
+            self.add_named(name.form.declaration)?;
+            left = name.next;
         }
         Ok(())
     }
@@ -87,7 +87,7 @@ impl Given {
 }
 
 /// The elements that a view gives.
-#[tactic(auto, using(crate::proofs::CountLemmas::adding))]
+#[tactic(auto, using(crate::proofs::CountLemmas::elements_begun, crate::proofs::CountLemmas::elements_counted, crate::proofs::CountLemmas::all_given))]
 pub(crate) fn elements_given(
     alloc: Global,
     elements: &Cursor<'_, Resolved>,
@@ -96,9 +96,9 @@ pub(crate) fn elements_given(
 {
     let mut given = Given::new(alloc);
     let mut left = elements.fork();
-    while left.form().is_some() {
-        given.add_names(&left.parts().parts())?;
-        left = left.next();
+    while let Some(element) = left.open() {
+        given.add_names(&element.parts.parts())?;
+        left = element.next;
     }
     Ok(given)
 }
