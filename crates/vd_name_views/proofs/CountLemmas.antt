@@ -1,17 +1,17 @@
 -- Counting elements one by one.
-use Rattle.std.proofs.Common.{◌≡◌, ◌+◌, ◌==◌, ◌&&◌, ◌++◌, ℕ, suc, Bool, true, false, cond, List, [], ◌∷◌, length, Option, Some, None, refl, sym, ap, subst, ◌∙◌, arith, nat_eq, true≢false}
+use Rattle.std.proofs.Common.{◌≡◌, ◌+◌, ◌==◌, ◌&&◌, ◌||◌, ◌++◌, nat_lt, ℕ, suc, Bool, true, false, cond, List, [], ◌∷◌, length, Option, Some, None, refl, sym, ap, subst, ◌∙◌, arith, nat_eq, true≢false}
 use Rattle.std.specs.Option.{unwrap_or}
 use Rattle.std.proofs.lemmas.Bool.Decides.{nat_tests}
 use Rattle.std.specs.declared.hash.FoldHasher.{FoldHasher}
 use Rattle.std.specs.declared.hash.BuildHasherDefault.{BuildHasherDefault}
 use Rattle.std.specs.HashMap.{HashMap, get, Updates}
-use Rattle.std.specs.List.{filter, list_all}
+use Rattle.std.specs.List.{filter, list_all, list_any}
 use Rattle.vd_naming.specs.Paths.{is_some}
 use Rattle.vd_bytes.specs.declared.places.Place.{Place}
 use Rattle.vd_forest.specs.Forest.{Forest, nothing, more, parts_of}
 use Rattle.vd_resolved.specs.declared.node.Resolved.{Resolved}
-use Rattle.vd_naming.specs.Views.{is_element, times_given, declarations_of, elements_given}
-use Rattle.vd_name_views.specs.Counted.{count_of, AreAdded, AreGiven}
+use Rattle.vd_naming.specs.Views.{is_element, times_given, is_ill_given, declarations_of, elements_given}
+use Rattle.vd_name_views.specs.Counted.{count_of, is_counted_ill, AreAdded, AreGiven}
 use Rattle.vd_name_views.specs.declared.given.Given.{Given}
 
 abbrev Times : Type 0
@@ -88,12 +88,12 @@ elements_begun now elements none = record {
   all = ap (λ b. b && list_all is_some (elements_given elements)) none.known;
 }
 
-pub elements_counted : (now next : Given) (left : Forest Resolved) (node : Resolved) (text : List ℕ) (place : Place) (parts rest : Forest Resolved) (totals : ℕ → ℕ) (known : Bool)
-    → left ≡ more node text place parts rest → AreLeft now (elements_given left) totals known → AreAdded now next (declarations_of (parts_of parts))
+pub elements_counted : (now next : Given) (left : Forest Resolved) (node : Resolved) (text : List ℕ) (place : Place) (parts rest names : Forest Resolved) (totals : ℕ → ℕ) (known : Bool)
+    → left ≡ more node text place parts rest → names ≡ parts_of parts → AreLeft now (elements_given left) totals known → AreAdded now next (declarations_of names)
     → AreLeft next (elements_given rest) totals known
-elements_counted now next left node text place parts rest totals known opened so_far added =
+elements_counted now next left node text place parts rest names totals known opened named so_far added =
     more_counted now next (declarations_of (parts_of parts)) (elements_given rest) totals known
-    (subst (λ f. AreLeft now (elements_given f) totals known) opened so_far) added
+    (subst (λ f. AreLeft now (elements_given f) totals known) opened so_far) (subst (λ f. AreAdded now next (declarations_of f)) named added)
 
 pub all_given : (new : Given) (elements left : Forest Resolved) → left ≡ nothing
     → AreLeft new (elements_given left) (λ k. times_given (elements_given elements) k) (list_all is_some (elements_given elements))
@@ -139,3 +139,17 @@ none_added old new times known = record {
     and_false : (b : Bool) → (b && false) ≡ false
     and_false true = refl
     and_false false = refl
+
+-- ---- what is ill by the counts is ill
+
+pub ill_as_counted : (g : Given) (given : List (Option ℕ)) → AreGiven g given → (k : ℕ) → is_counted_ill g k ≡ is_ill_given given k
+ill_as_counted g given counted k =
+    ap (λ n. nat_lt 1 n || ((n == 0) && g.all_known)) (counted.times k)
+    ∙ ap (λ b. nat_lt 1 (times_given given k) || ((times_given given k == 0) && b)) counted.known
+
+pub some_ill_as_counted : (g : Given) (given : List (Option ℕ)) (ks : List ℕ) → AreGiven g given
+    → list_any (is_counted_ill g) ks ≡ list_any (is_ill_given given) ks
+some_ill_as_counted g given [] counted = refl
+some_ill_as_counted g given (k ∷ ks) counted =
+    ap (λ b. b || list_any (is_counted_ill g) ks) (ill_as_counted g given counted k)
+    ∙ ap (λ b. is_ill_given given k || b) (some_ill_as_counted g given ks counted)

@@ -9,8 +9,9 @@ ghost use Rattle.vd_naming.specs.Endings as endings;
 ghost use Rattle.vd_naming.specs.Views.{is_ill_given as is_given_ill, elements_given as given_by, elements_of, is_ill_viewed as is_viewed_ill, type_viewed as type_of_view, is_no_record as is_other_type, refused_view as refusal_of_view, view_ends as view_declared};
 ghost use Rattle.vd_name_outcomes.specs.Ended.{seen_ended};
 ghost use Rattle.vd_name_outcomes.specs.Made.{IsMade};
+ghost use Rattle.vd_name_views.specs.Counted.{is_counted_ill};
 
-use crate::given::elements_given;
+use crate::given::{Given, elements_given};
 use crate::nested::{declaration_of_tree, some_nested_wrongly};
 use std::alloc::{AllocError, Global};
 use vd_bytes::Refused;
@@ -24,7 +25,23 @@ use vd_name_paths::broken_if;
 use vd_name_states::Names;
 use vd_resolved::Resolved;
 
+/// Whether one of the elements of a record type is given several times, or is missing, by these counts.
+fn some_counted_ill(names: &Names, mark: &Option<TypeId>, given: &Given) -> bool
+    ensures { result ≡ list_any (is_counted_ill given.now) (elements_of names.now mark.now) }
+{
+    let Some(mark) = mark else {
+        return false;
+    };
+    for element in names.parameters_of(DeclId::of(mark.number())) {
+        if given.is_ill_given(*element) {
+            return true;
+        }
+    }
+    false
+}
+
 /// Whether one of the elements of a record type is given several times, or is missing.
+#[tactic(auto, using(crate::proofs::CountLemmas::some_ill_as_counted))]
 fn some_ill_given(
     alloc: Global,
     names: &Names,
@@ -34,15 +51,8 @@ fn some_ill_given(
     ensures { IfOk result (λ ill. ill ≡ list_any (is_given_ill (given_by elements.now)) (elements_of names.now mark.now)) }
 {
     let given = elements_given(alloc, elements)?;
-    let Some(mark) = mark else {
-        return Ok(false);
-    };
-    for element in names.parameters_of(DeclId::of(mark.number())) {
-        if given.is_ill_given(*element) {
-            return Ok(true);
-        }
-    }
-    Ok(false)
+    let ill = some_counted_ill(names, mark, &given);
+    Ok(ill)
 }
 
 /// Whether the elements of a view are not those of its record type, each once, and each with a view of its type where it is nested.

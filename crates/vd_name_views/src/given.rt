@@ -1,8 +1,8 @@
 //! The elements that a view gives.
 
-ghost use Rattle.std.specs.Prelude.{◌≡◌, ℕ, List, Option, Some, IfOk, OnOk, [], ◌∷◌};
-ghost use Rattle.vd_naming.specs.Views.{declarations_of, elements_given, is_ill_given as is_given_ill};
-ghost use Rattle.vd_name_views.specs.Counted.{count_of, AreAdded, AreGiven};
+ghost use Rattle.std.specs.Prelude.{◌≡◌, Some, IfOk, OnOk, [], ◌∷◌};
+ghost use Rattle.vd_naming.specs.Views.{declarations_of, elements_given};
+ghost use Rattle.vd_name_views.specs.Counted.{count_of, is_counted_ill, AreAdded, AreGiven};
 
 use std::alloc::{AllocError, Global};
 use std::collections::HashMap;
@@ -79,7 +79,7 @@ impl Given {
 
     /// Whether an element is given several times, or never where all that are given are known.
     pub(crate) fn is_ill_given(&self, element: DeclId) -> bool
-        ensures { (given : List (Option ℕ)) → AreGiven self.now given → result ≡ is_given_ill given element }
+        ensures { result ≡ is_counted_ill self.now element }
     {
         let times = self.times_given(element.number());
         times > 1 || (times == 0 && self.all_known)
