@@ -91,10 +91,7 @@ fn is_no_record(names: &Names, mark: &Option<TypeId>) -> bool
 {
     match mark {
         None => false,
-        Some(mark) => !matches!(
-            names.class_of(DeclId::of(mark.number())),
-            Class::RecordType
-        ),
+        Some(mark) => !matches!(names.class_of(DeclId::of(mark.number())), Class::RecordType),
     }
 }
 
