@@ -2,9 +2,7 @@
 
 ghost use Rattle.std.specs.Prelude.{◌≡◌, ◌≤◌, IfOk, length};
 ghost use Rattle.std.specs.List.{list_any};
-ghost use Rattle.vd_forest.specs.Forest.{Forest, parts_of, skipped};
-ghost use Rattle.vd_forest.specs.Store.{at, Extends};
-ghost use Rattle.vd_resolved.specs.declared.node.Resolved.{Resolved};
+ghost use Rattle.vd_forest.specs.Store.{Extends};
 ghost use Rattle.vd_naming.specs.Endings as endings;
 ghost use Rattle.vd_naming.specs.Views.{is_ill_given as is_given_ill, elements_given as given_by, elements_of, is_ill_viewed as is_viewed_ill, type_viewed as type_of_view, is_no_record as is_other_type, refused_view as refusal_of_view, view_ends as view_declared};
 ghost use Rattle.vd_name_outcomes.specs.Ended.{seen_ended};
