@@ -9,7 +9,7 @@ ghost use Rattle.vd_name_outcomes.specs.Ended.{seen_ended};
 ghost use Rattle.vd_name_outcomes.specs.Made.{IsMade};
 
 use std::alloc::AllocError;
-use vd_declarations::{Class, DeclId, TypeId};
+use vd_declarations::{Class, DeclId};
 use vd_forest::{Cursor, Store};
 use vd_forms::Form;
 use vd_name_outcomes::{Ended, Made, finished};

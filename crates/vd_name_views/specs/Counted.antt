@@ -1,5 +1,5 @@
 -- How often elements are given, as it is counted.
-use Rattle.std.specs.Prelude.{◌≡◌, ℕ, ◌+◌, Bool, true, ◌&&◌, List, [], Option, nat_eq}
+use Rattle.std.specs.Prelude.{◌≡◌, ℕ, ◌+◌, ◌==◌, nat_lt, Bool, ◌&&◌, ◌||◌, List, Option, nat_eq}
 use Rattle.std.specs.Option.{unwrap_or}
 use Rattle.std.specs.declared.hash.FoldHasher.{FoldHasher}
 use Rattle.std.specs.declared.hash.BuildHasherDefault.{BuildHasherDefault}
@@ -11,6 +11,10 @@ use Rattle.vd_name_views.specs.declared.given.Given.{Given}
 
 abbrev pub count_of : HashMap ℕ ℕ (BuildHasherDefault FoldHasher) → ℕ → ℕ
 count_of times k = unwrap_or (get nat_eq times k) 0
+
+-- given several times, or never where all that are given are known
+abbrev pub is_counted_ill : Given → ℕ → Bool
+is_counted_ill g k = nat_lt 1 (count_of g.times k) || ((count_of g.times k == 0) && g.all_known)
 
 -- these are counted beside those that were
 pub record AreAdded (old new : Given) (given : List (Option ℕ)) : Type 0 where

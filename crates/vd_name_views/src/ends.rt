@@ -1,14 +1,13 @@
 //! The ends of views.
 
-ghost use Rattle.std.specs.Prelude.{◌≡◌, ◌≤◌, List, Option, IfOk, length};
+ghost use Rattle.std.specs.Prelude.{◌≡◌, ◌≤◌, IfOk, length};
 ghost use Rattle.std.specs.List.{list_any};
-ghost use Rattle.vd_forest.specs.Forest.{Forest, parts_of, skipped};
-ghost use Rattle.vd_forest.specs.Store.{at, Extends};
-ghost use Rattle.vd_resolved.specs.declared.node.Resolved.{Resolved};
+ghost use Rattle.vd_forest.specs.Store.{Extends};
+ghost use Rattle.vd_naming.specs.Endings as endings;
 ghost use Rattle.vd_naming.specs.Views.{is_ill_given as is_given_ill, elements_given as given_by, elements_of, is_ill_viewed as is_viewed_ill, type_viewed as type_of_view, is_no_record as is_other_type, refused_view as refusal_of_view, view_ends as view_declared};
 ghost use Rattle.vd_name_outcomes.specs.Ended.{seen_ended};
 ghost use Rattle.vd_name_outcomes.specs.Made.{IsMade};
-ghost use Rattle.vd_name_views.specs.Counted.{AreGiven};
+ghost use Rattle.vd_name_views.specs.Counted.{is_counted_ill};
 
 use crate::given::{Given, elements_given};
 use crate::nested::{declaration_of_tree, some_nested_wrongly};
@@ -24,9 +23,9 @@ use vd_name_paths::broken_if;
 use vd_name_states::Names;
 use vd_resolved::Resolved;
 
-/// Whether one of the elements of a record type is given several times, or is missing.
-fn some_ill_given(names: &Names, mark: Option<TypeId>, given: &Given) -> bool
-    ensures { (all : List (Option ℕ)) → AreGiven given.now all → result ≡ list_any (is_given_ill all) (elements_of names.now mark) }
+/// Whether one of the elements of a record type is given several times, or is missing, by these counts.
+fn some_counted_ill(names: &Names, mark: &Option<TypeId>, given: &Given) -> bool
+    ensures { result ≡ list_any (is_counted_ill given.now) (elements_of names.now mark.now) }
 {
     let Some(mark) = mark else {
         return false;
@@ -39,18 +38,32 @@ fn some_ill_given(names: &Names, mark: Option<TypeId>, given: &Given) -> bool
     false
 }
 
+/// Whether one of the elements of a record type is given several times, or is missing.
+#[tactic(auto, using(crate::proofs::CountLemmas::some_ill_as_counted))]
+fn some_ill_given(
+    alloc: Global,
+    names: &Names,
+    mark: &Option<TypeId>,
+    elements: &Cursor<'_, Resolved>,
+) -> Result<bool, AllocError>
+    ensures { IfOk result (λ ill. ill ≡ list_any (is_given_ill (given_by elements.now)) (elements_of names.now mark.now)) }
+{
+    let given = elements_given(alloc, elements)?;
+    let ill = some_counted_ill(names, mark, &given);
+    Ok(ill)
+}
+
 /// Whether the elements of a view are not those of its record type, each once, and each with a view of its type where it is nested.
 fn is_ill_viewed(
     alloc: Global,
     names: &Names,
-    mark: Option<TypeId>,
+    mark: &Option<TypeId>,
     elements: &Cursor<'_, Resolved>,
 ) -> Result<bool, AllocError>
-    ensures { IfOk result (λ ill. ill ≡ is_viewed_ill names.now mark elements.now) }
+    ensures { IfOk result (λ ill. ill ≡ is_viewed_ill names.now mark.now elements.now) }
 {
-    let given = elements_given(alloc, elements)?;
-    let ill = some_ill_given(names, mark, &given) || some_nested_wrongly(names, elements);
-    Ok(ill)
+    let ill = some_ill_given(alloc, names, mark, elements)?;
+    Ok(ill || some_nested_wrongly(names, elements))
 }
 
 /// The type of the mark of a view.
@@ -62,7 +75,8 @@ fn type_viewed(
     requires { ended.now.inner.now.tree ≤ length out.now }
     ensures { IfOk result (λ mark. mark ≡ type_of_view (seen_ended out.now names.now ended.now)) }
 {
-    let place = names.surroundings(ended.outer.revision, ended.outer.region)?;
+    let outer = ended.outer;
+    let place = names.surroundings(outer.revision, outer.region)?;
     match declaration_of_tree(&out.cursor(ended.inner.tree).next()) {
         None => Ok(None),
         Some(id) => Ok(place.type_meant(id)),
@@ -70,15 +84,12 @@ fn type_viewed(
 }
 
 /// Whether a type is known, and is no record type.
-fn is_no_record(names: &Names, mark: Option<TypeId>) -> bool
-    ensures { (x : naming.Ended) → x.inner.design ≡ names.now → result ≡ is_other_type x mark }
+fn is_no_record(names: &Names, mark: &Option<TypeId>) -> bool
+    ensures { (x : endings.Ended) → x.inner.design ≡ names.now → result ≡ is_other_type x mark.now }
 {
     match mark {
         None => false,
-        Some(mark) => !matches!(
-            names.class_of(DeclId::of(mark.number())),
-            Class::RecordType
-        ),
+        Some(mark) => !matches!(names.class_of(DeclId::of(mark.number())), Class::RecordType),
     }
 }
 
@@ -86,12 +97,12 @@ fn is_no_record(names: &Names, mark: Option<TypeId>) -> bool
 fn refused_view(
     alloc: Global,
     names: &Names,
-    mark: Option<TypeId>,
+    mark: &Option<TypeId>,
     ended: &Ended<'_, '_>,
     out: &Store<Resolved>,
 ) -> Result<Option<Refused>, AllocError>
     requires { ended.now.inner.now.tree ≤ length out.now }
-    ensures { IfOk result (λ first. first ≡ refusal_of_view (seen_ended out.now names.now ended.now) mark) }
+    ensures { IfOk result (λ first. first ≡ refusal_of_view (seen_ended out.now names.now ended.now) mark.now) }
 {
     let node = ended.node;
     let place = match node.parts.next().place() {
@@ -117,11 +128,13 @@ pub fn view_ends(
     ensures extends { Extends out.old out.new }
 {
     let mark = type_viewed(names, ended, out)?;
-    let refused = refused_view(alloc, names, mark, ended, out)?;
+    let refused = refused_view(alloc, names, &mark, ended, out)?;
     let number = names.next_number()?;
     let declared = declared_word(alloc, &Class::View, ended, mark)?;
-    let first = enter(names, ended.outer.region, declared)?;
+    let outer = ended.outer;
+    let first = enter(names, outer.region, declared)?;
     let own = Some(DeclId::of(number));
-    let made = finished(ended, own, None, ended.inner.tree, lesser(first, refused), out)?;
+    let both = lesser(first, refused);
+    let made = finished(ended, own, None, ended.inner.tree, both, out)?;
     Ok(made)
 }

@@ -1,8 +1,8 @@
 //! The elements that a view gives.
 
-ghost use Rattle.std.specs.Prelude.{◌≡◌, ℕ, List, Option, Some, IfOk, OnOk, [], ◌∷◌};
-ghost use Rattle.vd_naming.specs.Views.{declarations_of, elements_given, is_ill_given as is_given_ill};
-ghost use Rattle.vd_name_views.specs.Counted.{count_of, AreAdded, AreGiven};
+ghost use Rattle.std.specs.Prelude.{◌≡◌, Some, IfOk, OnOk, [], ◌∷◌};
+ghost use Rattle.vd_naming.specs.Views.{declarations_of, elements_given};
+ghost use Rattle.vd_name_views.specs.Counted.{count_of, is_counted_ill, AreAdded, AreGiven};
 
 use std::alloc::{AllocError, Global};
 use std::collections::HashMap;
@@ -65,21 +65,21 @@ impl Given {
     }
 
     /// What some names name. After an Err nothing is known of any.
-    #[tactic(auto, using(crate::proofs::CountLemmas::adding))]
+    #[tactic(auto, using(crate::proofs::CountLemmas::names_begun, crate::proofs::CountLemmas::names_counted, crate::proofs::CountLemmas::all_counted))]
     fn add_names(&mut self, names: &Cursor<'_, Resolved>) -> Result<(), AllocError>
         ensures { OnOk result (AreAdded self.old self.new (declarations_of names.now)) }
     {
         let mut left = names.fork();
-        while let Some(name) = left.form() {
-            self.add_named(name.declaration)?;
-            left = left.next();
+        while let Some(name) = left.open() {
+            self.add_named(name.form.declaration)?;
+            left = name.next;
         }
         Ok(())
     }
 
     /// Whether an element is given several times, or never where all that are given are known.
     pub(crate) fn is_ill_given(&self, element: DeclId) -> bool
-        ensures { (given : List (Option ℕ)) → AreGiven self.now given → result ≡ is_given_ill given element }
+        ensures { result ≡ is_counted_ill self.now element }
     {
         let times = self.times_given(element.number());
         times > 1 || (times == 0 && self.all_known)
@@ -87,7 +87,7 @@ impl Given {
 }
 
 /// The elements that a view gives.
-#[tactic(auto, using(crate::proofs::CountLemmas::adding))]
+#[tactic(auto, using(crate::proofs::CountLemmas::elements_begun, crate::proofs::CountLemmas::elements_counted, crate::proofs::CountLemmas::all_given))]
 pub(crate) fn elements_given(
     alloc: Global,
     elements: &Cursor<'_, Resolved>,
@@ -96,9 +96,9 @@ pub(crate) fn elements_given(
 {
     let mut given = Given::new(alloc);
     let mut left = elements.fork();
-    while left.form().is_some() {
-        given.add_names(&left.parts().parts())?;
-        left = left.next();
+    while let Some(element) = left.open() {
+        given.add_names(&element.parts.parts())?;
+        left = element.next;
     }
     Ok(given)
 }

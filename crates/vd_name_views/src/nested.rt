@@ -31,18 +31,18 @@ fn are_other(one: Option<TypeId>, other: Option<TypeId>) -> bool
 }
 
 /// Whether an element has another type.
-fn has_other_type(names: &Names, mark: Option<TypeId>, element: Option<DeclId>) -> bool
-    ensures { result ≡ is_of_other_type names.now mark element }
+fn has_other_type(names: &Names, mark: &Option<TypeId>, element: Option<DeclId>) -> bool
+    ensures { result ≡ is_of_other_type names.now mark.now element }
 {
     match element {
         None => false,
-        Some(element) => are_other(mark, names.mark_of(element)),
+        Some(element) => are_other(*mark, names.mark_of(element)),
     }
 }
 
 /// Whether one of the elements that are named has another type.
-fn nested_wrongly(names: &Names, mark: Option<TypeId>, elements: &Cursor<'_, Resolved>) -> bool
-    ensures { result ≡ are_nested_wrongly names.now mark (declarations_of elements.now) }
+fn nested_wrongly(names: &Names, mark: &Option<TypeId>, elements: &Cursor<'_, Resolved>) -> bool
+    ensures { result ≡ are_nested_wrongly names.now mark.now (declarations_of elements.now) }
 {
     let mut left = elements.fork();
     while let Some(element) = left.form() {
@@ -89,7 +89,7 @@ fn is_nested_wrongly(names: &Names, parts: &Cursor<'_, Resolved>) -> bool
     ensures { result ≡ are_nested_wrongly names.now (type_viewed_by names.now (view_by_element (next_of parts.now))) (declarations_of (parts_of parts.now)) }
 {
     let mark = record_viewed(names, view_in_element(&parts.next()));
-    nested_wrongly(names, mark, &parts.parts())
+    nested_wrongly(names, &mark, &parts.parts())
 }
 
 /// Whether one of the elements of a view is nested, and has a view of another type.
@@ -97,11 +97,11 @@ pub(crate) fn some_nested_wrongly(names: &Names, elements: &Cursor<'_, Resolved>
     ensures { result ≡ some_are_nested_wrongly names.now elements.now }
 {
     let mut left = elements.fork();
-    while left.form().is_some() {
-        if is_nested_wrongly(names, &left.parts()) {
+    while let Some(element) = left.open() {
+        if is_nested_wrongly(names, &element.parts) {
             return true;
         }
-        left = left.next();
+        left = element.next;
     }
     false
 }

@@ -3,8 +3,8 @@ use Rattle.vd_forest.specs.Forest.{size}
 use Rattle.vd_naming.specs.Views.{some_nested_wrongly}
 use Rattle.vd_name_views.proofs.nested.some_nested_wrongly.Given as goal
 
-abbrev pub invariant-loop-left : goal.invariant-loop-left
-invariant-loop-left l = some_nested_wrongly l.names l.left ≡ some_nested_wrongly l.names l.fn.elements
+abbrev pub invariant-loop-element : goal.invariant-loop-element
+invariant-loop-element l = some_nested_wrongly l.names l.left ≡ some_nested_wrongly l.names l.fn.elements
 
-abbrev pub decreases-loop-left : goal.decreases-loop-left
-decreases-loop-left l = size l.left
+abbrev pub decreases-loop-element : goal.decreases-loop-element
+decreases-loop-element l = size l.left
