@@ -3,7 +3,6 @@ use Rattle.std.specs.Option.{unwrap_or}
 use Rattle.std.specs.Prelude.{nat_eq}
 use Rattle.std.specs.HashMap.{get}
 use Rattle.vd_naming.specs.Associations.{is_among_numbers}
-use Rattle.vd_name_actuals.specs.declared.stand_ins.StandIn.{StandIn}
 use Rattle.vd_name_actuals.proofs.stand_ins.mark_generics.Given as goal
 
 abbrev pub invariant-loop-generic : goal.invariant-loop-generic
