@@ -1,0 +1,4 @@
+pub mod Code
+pub mod Named
+pub mod Seen
+pub mod Values
