@@ -1,0 +1,4 @@
+pub mod ActualLemmas
+pub mod ActualsLemmas
+pub mod ElementsLemmas
+pub mod StayLemmas

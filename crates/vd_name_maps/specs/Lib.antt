@@ -1,0 +1,3 @@
+pub mod Kinds
+pub mod Maps
+pub mod Pairs
