@@ -31,10 +31,10 @@ pub actuals_behind : (at : At) (d : Design) (generics : List ℕ) (es : List Ele
 actuals_behind at d generics es f text place parts p pairs types given here pairs_are types_are given_is =
     let k : Known = record { sight = sight at d; generics = generics; types = types_given at d es } in
     let same : known_from p pairs ≡ k =
-        ap (λ q. known_from q pairs) here ∙ ap (known_from (standpoint at d)) (pairs_are ∙ ap (both generics) types_are)
+    ap (λ q. known_from q pairs) here ∙ ap (known_from (standpoint at d)) (pairs_are ∙ ap (both generics) types_are)
     in
     let all : given ≡ k.types ++ functions_given d k es =
-        given_is ∙ ap (λ ts. ts ++ flat_map (function_for d (known_from p pairs) es) generics) types_are
-        ∙ ap (λ j. types_given at d es ++ flat_map (function_for d j es) generics) same
+    given_is ∙ ap (λ ts. ts ++ flat_map (function_for d (known_from p pairs) es) generics) types_are
+    ∙ ap (λ j. types_given at d es ++ flat_map (function_for d j es) generics) same
     in
     ap (λ xs. with_actuals xs at) all ∙ ap (with_actuals (k.types ++ functions_given d k es)) (sym (elements_stay at d k es parts).place)

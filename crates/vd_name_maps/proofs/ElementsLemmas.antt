@@ -3,7 +3,7 @@ use Rattle.std.proofs.Common.{◌≡◌, ◌≤◌, ◌<◌, ◌+◌, ℕ, List,
 use Rattle.std.proofs.lemmas.List.{drop_more, drop_all}
 use Rattle.vd_bytes.specs.declared.answers.Refused.{Refused}
 use Rattle.vd_bytes.specs.declared.places.Place.{Place}
-use Rattle.vd_forest.specs.Forest.{Forest, nothing, more, joined, turned}
+use Rattle.vd_forest.specs.Forest.{Forest, nothing, more, turned}
 use Rattle.vd_forest.specs.Store.{at, Holds, Extends}
 use Rattle.vd_forest.proofs.StoreLemmas.{turned_grown, extends_trans}
 use Rattle.vd_forms.specs.declared.form.Form.{Form}
@@ -65,7 +65,7 @@ module _ (a : At) (d : Design) (k : Known) where
         let o = element_outcome e.generic a d k e.actual f text place inner in
         let behind = elements_outcome a d k rest next in
         let split : elements_outcome a d k es left ≡ beside o behind =
-            ap (λ xs. elements_outcome a d k xs left) listed ∙ ap (elements_outcome a d k (e ∷ rest)) opened
+        ap (λ xs. elements_outcome a d k xs left) listed ∙ ap (elements_outcome a d k (e ∷ rest)) opened
         in
         record {
           trees_in = added.within;
@@ -84,7 +84,7 @@ module _ (a : At) (d : Design) (k : Known) where
         → left ≡ nothing → Kept start all es store trees first left → Kept start all rest store trees first left
     still_kept es rest store trees first left none kept =
         let same : elements_outcome a d k rest left ≡ elements_outcome a d k es left =
-            ap (elements_outcome a d k rest) none ∙ without_trees rest ∙ sym (without_trees es) ∙ ap (elements_outcome a d k es) (sym none)
+        ap (elements_outcome a d k rest) none ∙ without_trees rest ∙ sym (without_trees es) ∙ ap (elements_outcome a d k es) (sym none)
         in
         record {
           trees_in = kept.trees_in;

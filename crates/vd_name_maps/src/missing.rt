@@ -36,11 +36,7 @@ fn all_known(marks: &[Option<TypeId>]) -> bool
 
 /// Whether it is a generic function for which none of its name and profile is visible. One whose profile has a type that isn't known is refused
 /// already.
-fn lacks_default(
-    alloc: Global,
-    known: &Known<'_, '_>,
-    generic: DeclId,
-) -> Result<bool, AllocError>
+fn lacks_default(alloc: Global, known: &Known<'_, '_>, generic: DeclId) -> Result<bool, AllocError>
     ensures { IfOk result (λ lacks. lacks ≡ has_no_default known.now.names.now (seen_known known.now) generic) }
 {
     if !matches!(known.place.class_of(generic), Class::GenericFunction) {
