@@ -2,6 +2,7 @@
 #![tactic(auto)]
 
 pub mod behind;
+pub mod functions;
 pub mod kinds;
 pub mod units;
 
