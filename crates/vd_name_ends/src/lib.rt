@@ -4,6 +4,7 @@
 pub mod behind;
 pub mod functions;
 pub mod kinds;
+pub mod nodes;
 pub mod units;
 
 pub use behind::place_behind;
