@@ -1,6 +1,5 @@
 -- What is known at the place behind a form doesn't hang on what the form declares.
 use Rattle.std.proofs.Common.{◌≡◌, ◌==◌, ℕ, suc, Bool, true, false, cond, Option, Some, None, refl, sym, ap, ◌∙◌}
-use Rattle.vd_declarations.specs.declared.declarations.Declaration.{Declaration}
 use Rattle.vd_forest.specs.Forest.{Forest, parts_of, text_of}
 use Rattle.vd_forms.specs.declared.form.Form.{Form}
 use Rattle.vd_given.specs.declared.numbers.TheConstants.{REGION_OF_LIBRARIES}
@@ -14,7 +13,7 @@ use Rattle.vd_naming.specs.Functions.{body_of}
 use Rattle.vd_naming.specs.Units.{body_of_package, unit_named, is_single}
 use Rattle.vd_naming.specs.Instances.{are_settled, package_declared, undeclared_package, package_instance_as, function_declared, undeclared_function, function_instance_as, copying_at}
 use Rattle.vd_naming.specs.Naming.{ended}
-use Rattle.vd_name_ends.specs.Places.{unit_counted, place_behind}
+use Rattle.vd_name_ends.specs.Places.{place_behind}
 
 either : (b : Bool) (o p : Outcome) (at : At) → o.at ≡ at → p.at ≡ at → (cond b o p).at ≡ at
 either true o p at first second = first

@@ -1,5 +1,5 @@
 -- What is known at the place behind a form, by what was known in front of it and of its parts.
-use Rattle.std.specs.Prelude.{ℕ, suc, ◌==◌, if◌then◌else◌}
+use Rattle.std.specs.Prelude.{suc, ◌==◌, if◌then◌else◌}
 use Rattle.vd_given.specs.declared.numbers.TheConstants.{REGION_OF_LIBRARIES}
 use Rattle.vd_name_states.specs.Designs.{At, Design}
 use Rattle.vd_name_states.specs.Members.{next_number}

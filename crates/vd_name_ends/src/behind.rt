@@ -1,9 +1,8 @@
 //! What is known at the place behind a form.
 
-ghost use Rattle.std.specs.Prelude.{◌≡◌, suc, IfOk, OnOk, if◌then◌else◌, ◌==◌};
+ghost use Rattle.std.specs.Prelude.{◌≡◌, IfOk, OnOk};
 ghost use Rattle.vd_forest.specs.Forest.{Forest};
 ghost use Rattle.vd_forms.specs.declared.form.Form.{Form as AnyForm};
-ghost use Rattle.vd_given.specs.declared.numbers.TheConstants.{REGION_OF_LIBRARIES as LIBRARIES};
 ghost use Rattle.vd_naming.specs.Endings.{Ended as AnyEnded};
 ghost use Rattle.vd_naming.specs.Naming.{ended};
 ghost use Rattle.vd_name_ends.specs.Places.{place_behind as behind_ending, unit_counted};

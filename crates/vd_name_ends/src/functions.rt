@@ -18,7 +18,7 @@ use vd_name_states::{Ending, Names};
 use vd_resolved::Resolved;
 
 /// The end of a form that declares a function, or a generic that may be one.
-pub(crate) fn end_function(
+pub fn end_function(
     alloc: Global,
     names: &mut Names,
     ending: Ending,

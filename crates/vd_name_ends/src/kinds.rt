@@ -10,8 +10,10 @@ use vd_name_states::Ending;
 pub enum Kind {
     /// Nothing: its node ends.
     Node,
-    /// Objects, types, subtypes or a view.
+    /// Objects, a type or a subtype.
     Object,
+    /// A mode view.
+    View,
     /// A function, or a generic that may be one.
     Function,
     /// A unit.
@@ -21,7 +23,7 @@ pub enum Kind {
 }
 
 /// What a form with this ending declares.
-pub(crate) fn kind_of(ending: Ending) -> Kind
+pub fn kind_of(ending: Ending) -> Kind
     ensures { result ≡ ending_kind ending }
 {
     match ending {
@@ -31,11 +33,9 @@ pub(crate) fn kind_of(ending: Ending) -> Kind
         | Ending::Indicated
         | Ending::ClauseEnds
         | Ending::UnitEnds => Kind::Node,
-        Ending::Objects { .. }
-        | Ending::AllPorts
-        | Ending::NewType
-        | Ending::NewSubtype
-        | Ending::NewView => Kind::Object,
+        Ending::Objects { .. } | Ending::AllPorts | Ending::NewType | Ending::NewSubtype =>
+            Kind::Object,
+        Ending::NewView => Kind::View,
         Ending::NewGenericType
         | Ending::NewGenericFunction
         | Ending::NewFunction

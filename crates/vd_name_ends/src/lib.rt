@@ -5,6 +5,12 @@ pub mod behind;
 pub mod functions;
 pub mod kinds;
 pub mod nodes;
+pub mod objects;
 pub mod units;
 
 pub use behind::place_behind;
+pub use functions::end_function;
+pub use kinds::{Kind, kind_of};
+pub use nodes::end_node;
+pub use objects::end_object;
+pub use units::end_unit;

@@ -19,7 +19,7 @@ use vd_name_units::unit_ends;
 use vd_resolved::Resolved;
 
 /// The end of a form that declares nothing.
-pub(crate) fn end_node(
+pub fn end_node(
     names: &Names,
     ending: Ending,
     ended: &Ended<'_, '_>,

@@ -19,7 +19,7 @@ use vd_name_units::{
 use vd_resolved::Resolved;
 
 /// The end of a form that declares a unit.
-pub(crate) fn end_unit(
+pub fn end_unit(
     alloc: Global,
     names: &mut Names,
     units: &Units<'_>,
