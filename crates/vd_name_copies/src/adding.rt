@@ -61,7 +61,9 @@ fn copies_of(
     let regions = copying.regions_of_copies(alloc, names)?;
     let instance = copying.instance(alloc)?;
     let Copying {
-        offsets, generics, ..
+        offsets,
+        generics,
+        ..
     } = copying;
     Ok(Copies {
         entries,

@@ -25,12 +25,7 @@ impl<'a> Copying<'a> {
     }
 
     /// The copy of what was entered under a number.
-    fn entry_of_copy(
-        &self,
-        alloc: Global,
-        names: &Names,
-        id: DeclId,
-    ) -> Result<Entered, AllocError>
+    fn entry_of_copy(&self, alloc: Global, names: &Names, id: DeclId) -> Result<Entered, AllocError>
         requires { id < length names.now.scopes.entered }
         ensures { IfOk result (λ copy. copy ≡ record {
           region = region_for_copy (seen_copying self.now) id (entered_at names.now.scopes id).region;

@@ -59,8 +59,7 @@ impl Offsets {
     {
         let original = names.note(id);
         let span = self.copy_of_span(&original.span)?;
-        let is_bounded =
-            original.is_bounded || is_bounded_actual(names, stand_ins.actual_of(id));
+        let is_bounded = original.is_bounded || is_bounded_actual(names, stand_ins.actual_of(id));
         Ok(Note {
             has_body: original.has_body,
             is_instance: false,

@@ -49,11 +49,7 @@ impl<'a> Copying<'a> {
     }
 
     /// The copy of a region.
-    pub fn copy_of_region(
-        &self,
-        names: &Names,
-        region: RegionId,
-    ) -> Result<RegionCopy, AllocError>
+    pub fn copy_of_region(&self, names: &Names, region: RegionId) -> Result<RegionCopy, AllocError>
         ensures { IfOk result (λ copy. seen_region copy ≡ copy_of_region (seen_copying self.now) (region_at names.now.scopes region)) }
     {
         let regions = names.regions();

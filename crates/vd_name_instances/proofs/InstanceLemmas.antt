@@ -41,8 +41,8 @@ module _ (x : Ended) (c : Copying) (i : Instance) (is : IsInstance i c) where
       → IsMade store new made (package_declared x c)
   package_made declared copied new first store made built with_all entered held refused =
       let enters : entering_unit declared copied ≡ entering_unit (package_instance x c) (with_copies c x.inner.design) =
-          ap (λ e. entering_unit e copied) (built ∙ taken (declaration_of class.PackageInstance (word_of x) None))
-          ∙ ap (entering_unit (package_instance x c)) with_all in
+      ap (λ e. entering_unit e copied) (built ∙ taken (declaration_of class.PackageInstance (word_of x) None))
+      ∙ ap (entering_unit (package_instance x c)) with_all in
       record {
         holds = subst (λ n. Holds store made.tree (more (resolved x.form (Some n) None) x.text x.place x.inner.tree nothing)) is.number held;
         design = entered.design ∙ ap (λ (e : Entering). e.design) enters;
@@ -59,14 +59,14 @@ module _ (x : Ended) (c : Copying) (i : Instance) (is : IsInstance i c) where
       → IsMade store new made (function_declared x c)
   function_made declared copied noted new first store made built with_all with_notes entered held refused =
       let noted_is : noted ≡ with_instance x.outer.is_package (number_behind c) (with_copies c x.inner.design) =
-          with_notes ∙ ap (λ n. with_instance x.outer.is_package n copied) is.number
-          ∙ ap (with_instance x.outer.is_package (number_behind c)) with_all in
+      with_notes ∙ ap (λ n. with_instance x.outer.is_package n copied) is.number
+      ∙ ap (with_instance x.outer.is_package (number_behind c)) with_all in
       let declared_is : declared ≡ function_instance x c =
-          built ∙ ap (λ t. with_taken i (declaration_of class.Function (word_of x) t)) is.mark
-          ∙ taken (declaration_of class.Function (word_of x) (option_map (type_of_copy c) c.generic.mark)) in
+      built ∙ ap (λ t. with_taken i (declaration_of class.Function (word_of x) t)) is.mark
+      ∙ taken (declaration_of class.Function (word_of x) (option_map (type_of_copy c) c.generic.mark)) in
       let enters : entering x.outer.region declared noted
-          ≡ entering x.outer.region (function_instance x c) (with_instance x.outer.is_package (number_behind c) (with_copies c x.inner.design)) =
-          ap (λ e. entering x.outer.region e noted) declared_is ∙ ap (entering x.outer.region (function_instance x c)) noted_is in
+      ≡ entering x.outer.region (function_instance x c) (with_instance x.outer.is_package (number_behind c) (with_copies c x.inner.design)) =
+      ap (λ e. entering x.outer.region e noted) declared_is ∙ ap (entering x.outer.region (function_instance x c)) noted_is in
       record {
         holds = subst (λ n. Holds store made.tree (more (resolved x.form (Some n) None) x.text x.place x.inner.tree nothing)) is.number held;
         design = entered.design ∙ ap (λ (e : Entering). e.design) enters;

@@ -18,8 +18,8 @@ use std::alloc::{AllocError, Global};
 use vd_bytes::{Place, Refused};
 use vd_declarations::{Class, DeclId, Declaration, RegionId};
 use vd_forest::Store;
-use vd_name_copies::{Instance, add_copies};
 use vd_least::lesser;
+use vd_name_copies::{Instance, add_copies};
 use vd_name_entering::enter;
 use vd_name_outcomes::{Ended, Made, finished};
 use vd_name_paths::broken_if;
@@ -175,7 +175,10 @@ fn function_instance_as(
     ensures is { IfOk result (λ made. IsMade out.new names.new made (instance_of_known (Some id) (seen_ended out.old names.old ended.now))) }
     ensures extends { Extends out.old out.new }
 {
-    let refused = lesser(refused_symbol(names, ended, id), refused_body(names, ended, id));
+    let refused = lesser(
+        refused_symbol(names, ended, id),
+        refused_body(names, ended, id),
+    );
     let made = function_instance_of(alloc, names, id, ended, out)?;
     Ok(refused_also(&made, refused))
 }

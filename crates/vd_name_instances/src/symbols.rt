@@ -21,11 +21,7 @@ fn is_operator_of(revision: Revision, text: &[u8], count: usize) -> bool
 }
 
 /// Whether the first tree is a designator in quotation marks that isn't an operator with so many operands.
-pub(crate) fn is_wrong_symbol(
-    revision: Revision,
-    trees: &Cursor<'_, Form>,
-    count: usize,
-) -> bool
+pub(crate) fn is_wrong_symbol(revision: Revision, trees: &Cursor<'_, Form>, count: usize) -> bool
     ensures { result ≡ is_symbol_wrong revision trees.now count }
 {
     match trees.open() {
