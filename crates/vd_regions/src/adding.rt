@@ -43,6 +43,13 @@ impl Regions {
         }
     }
 
+    /// Whether the end of a region is reached.
+    pub fn is_ended(&self, region: RegionId) -> bool
+        ensures { result ≡ (region_at self.now region).closed }
+    {
+        self.is_closed(region.number())
+    }
+
     /// Whether a place in a region stands in another, or in what continues it.
     pub fn is_inside(
         &self,
