@@ -1,5 +1,5 @@
 -- What an instance declares, in words of contracts.
-use Rattle.std.specs.Prelude.{◌≡◌, ℕ, ◌++◌, List, [], ◌∷◌, map, Option, option_map}
+use Rattle.std.specs.Prelude.{◌≡◌, ◌++◌, List, [], ◌∷◌, map, option_map}
 use Rattle.vd_regions.specs.Scopes.{Region}
 use Rattle.vd_regions.specs.declared.entries.Entered.{Entered}
 use Rattle.vd_name_states.specs.Designs.{Design, with_scopes}
