@@ -43,7 +43,7 @@ fn refused_as_type(
 ) -> Result<Option<Refused>, AllocError>
     ensures { IfOk result (λ first. first ≡ no_type_at at.now names.now place actual.now) }
 {
-    let sight = names.surroundings(at.revision, at.region)?;
+    let sight = names.surroundings(at)?;
     let mark = Want::Mark(TypeId::of(BOOLEAN));
     let name = first_refusal(&sight, alloc, &mark, actual)?;
     Ok(no_type(place, name))
@@ -58,7 +58,7 @@ fn refused_names_of(
 ) -> Result<Option<Refused>, AllocError>
     ensures { IfOk result (λ first. first ≡ pieces_at at.now names.now actual.now) }
 {
-    let sight = names.surroundings(at.revision, at.region)?;
+    let sight = names.surroundings(at)?;
     refused_pieces(alloc, names, &sight, at.region, actual)
 }
 

@@ -124,7 +124,7 @@ fn context_of(
         ≡ only_that (λ k. is_context (declaration_at names.now.scopes k).class) (meant_by_path (sight at.now names.now) node.now.parts)) }
     ensures rule { IfOk result (λ found. found.rule ≡ rule_by (meant_by_path (sight at.now names.now) node.now.parts)) }
 {
-    let place = names.surroundings(at.revision, at.region)?;
+    let place = names.surroundings(at)?;
     let meant = path_meant(alloc, &place, &node.parts)?;
     Ok(found_of(names, &place, Fit::Context, &meant))
 }

@@ -108,7 +108,7 @@ fn found_of(
     ensures first { IfOk result (λ found. found.first
         ≡ path_refused found.named (meant_of_sort (λ k. is_generic generic (declaration_at names.now.scopes k).class) (meant_by_path (sight at.now names.now) node.now.parts)) node.now.place) }
 {
-    let place = names.surroundings(at.revision, at.region)?;
+    let place = names.surroundings(at)?;
     let all = path_meant(alloc, &place, &node.parts)?;
     let meant = meant_that(alloc, names, generic, &all)?;
     let named = one_that(names, &place, Fit::Any, &meant);
@@ -153,7 +153,7 @@ fn begins_outside(
 ) -> Result<bool, AllocError>
     ensures { IfOk result (λ outside. outside ≡ path_from_outside (sight at.now names.now) names.now at.now.region (prefix_pieces node.now.parts)) }
 {
-    let place = names.surroundings(at.revision, at.region)?;
+    let place = names.surroundings(at)?;
     prefix_outside(alloc, names, &place, at.region, &node.parts)
 }
 
@@ -166,7 +166,7 @@ fn is_outside(
 ) -> Result<bool, AllocError>
     ensures { IfOk result (λ outside. outside ≡ path_from_outside (sight at.now names.now) names.now at.now.region node.now.parts) }
 {
-    let place = names.surroundings(at.revision, at.region)?;
+    let place = names.surroundings(at)?;
     path_outside(alloc, names, &place, at.region, &node.parts)
 }
 

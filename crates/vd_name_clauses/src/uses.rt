@@ -35,7 +35,7 @@ fn package_of(
         ≡ only_that (λ k. is_package (declaration_at names.now.scopes k).class) (path_meant (sight at.now names.now) (prefix_pieces node.now.parts))) }
     ensures rule { IfOk result (λ found. found.rule ≡ rule_by (path_meant (sight at.now names.now) (prefix_pieces node.now.parts))) }
 {
-    let place = names.surroundings(at.revision, at.region)?;
+    let place = names.surroundings(at)?;
     let meant = prefix_meant(alloc, &place, &node.parts)?;
     Ok(found_of(names, &place, Fit::Package, &meant))
 }
@@ -74,7 +74,7 @@ fn used_of(
             }),
         }),
         Some(name) => {
-            let place = names.surroundings(at.revision, at.region)?;
+            let place = names.surroundings(at)?;
             let selected = place.selected(alloc, id, name.as_slice())?;
             let first = broken_if(selected.is_empty(), 303, node.place);
             Ok(UsedPart {
@@ -95,7 +95,7 @@ fn refused_outside(
     ensures { IfOk result (λ refused. refused
         ≡ refused_where (path_from_outside (sight at.now names.now) names.now at.now.region node.now.parts) 307 node.now.place) }
 {
-    let place = names.surroundings(at.revision, at.region)?;
+    let place = names.surroundings(at)?;
     let outside = path_outside(alloc, names, &place, at.region, &node.parts)?;
     Ok(broken_if(outside, 307, node.place))
 }

@@ -72,13 +72,13 @@ no_regions d = ap (λ xs. with_scopes d (record d.scopes { regions = xs })) (app
 
 -- ---- notes
 
-pub note_more : (o : Offsets) (actuals : List Actual) (next : ℕ) (d d' : Design) → next < o.owner → d' ≡ with_notes o actuals next 1 d
-    → with_notes o actuals (next + 1) (o.owner - (next + 1)) d' ≡ with_notes o actuals next (o.owner - next) d
+pub note_more : (o : Offsets) (actuals : List Actual) (next : ℕ) (d d' : Design) → next < o.span.end → d' ≡ with_notes o actuals next 1 d
+    → with_notes o actuals (next + 1) (o.span.end - (next + 1)) d' ≡ with_notes o actuals next (o.span.end - next) d
 note_more o actuals next d d' before noted =
-    let more : suc (o.owner - (next + 1)) ≡ o.owner - next = omega (arith, before) in
+    let more : suc (o.span.end - (next + 1)) ≡ o.span.end - next = omega (arith, before) in
     let behind : next + 1 ≡ suc next = omega arith in
-    ap (with_notes o actuals (next + 1) (o.owner - (next + 1))) noted
-    ∙ ap (λ n. with_notes o actuals n (o.owner - (next + 1)) (with_notes o actuals next 1 d)) behind
+    ap (with_notes o actuals (next + 1) (o.span.end - (next + 1))) noted
+    ∙ ap (λ n. with_notes o actuals n (o.span.end - (next + 1)) (with_notes o actuals next 1 d)) behind
     ∙ ap (λ n. with_notes o actuals next n d) more
 
 noted_as : (c : Copying) (n left : ℕ) (d : Design) → with_notes (offsets_of c) c.actuals n left d ≡ with_noted_copies c n left d
@@ -87,14 +87,14 @@ noted_as c n (suc left) d = noted_as c (suc n) left _
 
 pub all_added : (made : Copies) (c : Copying) (d d1 d2 d3 : Design) → AreCopies made c d
     → d1 ≡ with_entries made.entries.items d → d2 ≡ with_regions (map seen_region made.regions.items) d1
-    → d3 ≡ with_notes made.offsets made.generics.actuals made.offsets.span.first (made.offsets.owner - made.offsets.span.first) d2
+    → d3 ≡ with_notes made.offsets made.generics.actuals made.offsets.span.first (made.offsets.span.end - made.offsets.span.first) d2
     → d3 ≡ with_copies c d
 all_added made c d d1 d2 d3 are one two three =
     three
-    ∙ ap (λ (o : Offsets). with_notes o made.generics.actuals o.span.first (o.owner - o.span.first) d2) are.offsets
-    ∙ ap (λ actuals. with_notes (offsets_of c) actuals c.span.first (c.owner - c.span.first) d2) are.actuals
-    ∙ ap (with_notes (offsets_of c) c.actuals c.span.first (c.owner - c.span.first))
+    ∙ ap (λ (o : Offsets). with_notes o made.generics.actuals o.span.first (o.span.end - o.span.first) d2) are.offsets
+    ∙ ap (λ actuals. with_notes (offsets_of c) actuals c.span.first (c.span.end - c.span.first) d2) are.actuals
+    ∙ ap (with_notes (offsets_of c) c.actuals c.span.first (c.span.end - c.span.first))
     (two ∙ ap (λ rs. with_regions rs d1) are.regions
     ∙ ap (with_regions (map (copy_of_region c) (some_of c.span.first_region c.span.end_region d.scopes.regions) ++ unseen_region c ∷ []))
     (one ∙ ap (λ es. with_entries es d) are.entries))
-    ∙ noted_as c c.span.first (c.owner - c.span.first) (with_scopes d (scopes_with_copies c d.scopes))
+    ∙ noted_as c c.span.first (c.span.end - c.span.first) (with_scopes d (scopes_with_copies c d.scopes))

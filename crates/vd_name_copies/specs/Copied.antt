@@ -31,7 +31,7 @@ pub record IsInstance (made : Instance) (c : Copying) : Type 0 where
 
 -- all copies, which aren't in the design yet
 pub record AreCopies (made : Copies) (c : Copying) (d : Design) : Type 0 where
-  pub entries : made.entries.items ≡ entries_of_copies c c.span.first (some_of c.span.first c.owner d.scopes.entered)
+  pub entries : made.entries.items ≡ entries_of_copies c c.span.first (some_of c.span.first c.span.end d.scopes.entered)
   pub regions : map seen_region made.regions.items ≡ map (copy_of_region c) (some_of c.span.first_region c.span.end_region d.scopes.regions) ++ unseen_region c ∷ []
   pub offsets : made.offsets ≡ offsets_of c
   pub actuals : made.generics.actuals ≡ c.actuals

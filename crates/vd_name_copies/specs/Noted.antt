@@ -12,6 +12,7 @@ use Rattle.vd_name_copies.specs.Offsets.{number_of, region_of}
 abbrev pub span_of : Offsets → Span → Span
 span_of o x = record {
   first = number_of o x.first;
+  end = o.first + (x.end - o.span.first);
   first_region = region_of o x.first_region;
   end_region = o.first_region + (x.end_region - o.span.first_region);
 }

@@ -5,10 +5,10 @@ use Rattle.vd_naming.specs.Copies.{Copying}
 use Rattle.vd_name_copies.specs.declared.numbers.Offsets.{Offsets}
 
 abbrev pub number_of : Offsets → ℕ → ℕ
-number_of o n = as_in o.span.first o.owner o.first n
+number_of o n = as_in o.span.first o.span.end o.first n
 
 abbrev pub region_of : Offsets → ℕ → ℕ
 region_of o r = as_in o.span.first_region o.span.end_region o.first_region r
 
 abbrev pub offsets_of : Copying → Offsets
-offsets_of c = record { owner = c.owner; span = c.span; first = c.first; first_region = c.first_region }
+offsets_of c = record { span = c.span; first = c.first; first_region = c.first_region }

@@ -8,7 +8,6 @@ use Rattle.vd_naming.specs.Copies.{Copying}
 
 -- the place of the instance in place of what is seen from there
 pub record Source : Type 0 where
-  pub owner : ℕ
   pub span : Span
   pub generic : Declaration
   pub outer : ℕ
@@ -19,7 +18,6 @@ pub record Source : Type 0 where
 
 abbrev pub seen_copying : Source → Copying
 seen_copying x = record {
-  owner = x.owner;
   span = x.span;
   generic = x.generic;
   outer = x.outer;

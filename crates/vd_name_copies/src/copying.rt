@@ -7,7 +7,7 @@ ghost use Rattle.vd_name_states.specs.Noting.{span_at};
 ghost use Rattle.vd_name_states.specs.Designs.{note_at, sight};
 ghost use Rattle.vd_name_states.specs.Members.{next_number, next_region};
 ghost use Rattle.vd_naming.specs.Actuals.{actual_of};
-ghost use Rattle.vd_naming.specs.Copies.{copying, end_of_span, is_own_generic, is_kept, type_of_copy, function_of_copy, numbers_of_copies};
+ghost use Rattle.vd_naming.specs.Copies.{copying, is_own_generic, is_kept, type_of_copy, function_of_copy, numbers_of_copies};
 ghost use Rattle.vd_name_copies.specs.Offsets.{offsets_of};
 ghost use Rattle.vd_name_copies.specs.Sources.{seen_copying};
 
@@ -40,7 +40,6 @@ impl<'a> Model for Copying<'a> {
     ghost Value = { Source };
 
     ghost view = { λ a. record {
-      owner = a.offsets.owner;
       span = a.offsets.span;
       generic = declaration_at a.names.now.scopes a.id;
       outer = a.outer;
@@ -55,16 +54,6 @@ impl<'a> Model for Copying<'a> {
         × (a.parameters.generics ≡ (declaration_at a.names.now.scopes a.id).parameters) };
 }
 
-/// The number of the package or function, behind what it declares; where nothing is known of its span, nothing is copied.
-fn end_of_span(names: &Names, id: DeclId) -> u32
-    ensures { result ≡ end_of_span id (note_at names.now id).span }
-{
-    match names.note(id).span {
-        Some(_) => id.number(),
-        None => 0,
-    }
-}
-
 /// The span of a package or function, or one of nothing.
 fn span_at(names: &Names, id: DeclId) -> Span
     ensures { result ≡ span_at names.now id }
@@ -73,6 +62,7 @@ fn span_at(names: &Names, id: DeclId) -> Span
         Some(span) => span,
         None => Span {
             first: 0,
+            end: 0,
             first_region: 0,
             end_region: 0,
         },
@@ -82,7 +72,6 @@ fn span_at(names: &Names, id: DeclId) -> Span
 /// What is copied, and to which numbers.
 fn offsets_of(names: &Names, id: DeclId) -> Result<Offsets, AllocError>
     ensures { IfOk result (λ made. made ≡ record {
-      owner = end_of_span id (note_at names.now id).span;
       span = span_at names.now id;
       first = next_number names.now;
       first_region = next_region names.now;
@@ -91,7 +80,6 @@ fn offsets_of(names: &Names, id: DeclId) -> Result<Offsets, AllocError>
     let first = names.next_number()?;
     let first_region = names.next_region()?;
     Ok(Offsets {
-        owner: end_of_span(names, id),
         span: span_at(names, id),
         first,
         first_region,
@@ -112,7 +100,7 @@ impl<'a> Copying<'a> {
         let offsets = offsets_of(names, id)?;
         let generics = StandIns::of(alloc, names.generics_of(id), actuals)?;
         let parameters = StandIns::of(alloc, names.parameters_of(id), &[])?;
-        let place = names.surroundings(outer.revision, outer.region)?;
+        let place = names.surroundings(outer)?;
         Ok(Copying {
             names,
             place,

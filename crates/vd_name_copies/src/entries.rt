@@ -49,11 +49,11 @@ impl<'a> Copying<'a> {
         names: &Names,
     ) -> Result<Vec<Entered>, AllocError>
         ensures { IfOk result (λ copies. copies.items
-            ≡ entries_of_copies (seen_copying self.now) self.now.span.first (some_of self.now.span.first self.now.owner names.now.scopes.entered)) }
+            ≡ entries_of_copies (seen_copying self.now) self.now.span.first (some_of self.now.span.first self.now.span.end names.now.scopes.entered)) }
     {
         let mut copies = Vec::new(alloc);
         let mut next = self.offsets.span.first;
-        let end = self.offsets.owner;
+        let end = self.offsets.span.end;
         while next < end && names.regions().is_declaration(DeclId::of(next)) {
             copies.push(self.entry_of_copy(alloc, names, DeclId::of(next))?)?;
             next += 1;

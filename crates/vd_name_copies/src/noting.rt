@@ -26,10 +26,12 @@ impl Offsets {
         ensures { IfOk result (λ copy. copy ≡ span_of self.now span.now) }
     {
         let first = self.number_of_copy(DeclId::of(span.first))?;
+        let end = self.end_of_copies(span.end)?;
         let first_region = self.region_of_copy(RegionId::of(span.first_region))?;
         let end_region = self.end_of_copy(span.end_region)?;
         Ok(Span {
             first: first.number(),
+            end,
             first_region: first_region.number(),
             end_region,
         })
@@ -94,10 +96,10 @@ impl Offsets {
         stand_ins: &StandIns,
     ) -> Result<(), AllocError>
         ensures { OnOk result (names.new
-            ≡ with_notes self.now stand_ins.now.actuals self.now.span.first (self.now.owner - self.now.span.first) names.old) }
+            ≡ with_notes self.now stand_ins.now.actuals self.now.span.first (self.now.span.end - self.now.span.first) names.old) }
     {
         let mut next = self.span.first;
-        let end = self.owner;
+        let end = self.span.end;
         while next < end {
             self.note_copy(names, stand_ins, DeclId::of(next))?;
             next += 1;

@@ -8,11 +8,10 @@ use std::alloc::AllocError;
 use vd_declarations::{DeclId, RegionId};
 use vd_name_states::Span;
 
-/// The declarations and regions that are copied, from the first ones of the span to the owner and to the end of the span; and the numbers of
+/// The declarations and regions that are copied, from the first ones of the span to the ones behind it; and the numbers of
 /// the first copies.
 #[derive(Clone, Copy)]
 pub struct Offsets {
-    pub owner: u32,
     pub span: Span,
     pub first: u32,
     pub first_region: u32,
@@ -46,7 +45,7 @@ impl Offsets {
     pub fn number_of_copy(&self, id: DeclId) -> Result<DeclId, AllocError>
         ensures { IfOk result (λ copy. copy ≡ number_of self.now id) }
     {
-        let number = as_in(self.span.first, self.owner, self.first, id.number())?;
+        let number = as_in(self.span.first, self.span.end, self.first, id.number())?;
         Ok(DeclId::of(number))
     }
 
@@ -64,11 +63,18 @@ impl Offsets {
         Ok(RegionId::of(number))
     }
 
+    /// The number behind the copies of declarations that end in front of this one.
+    pub fn end_of_copies(&self, end: u32) -> Result<u32, AllocError>
+        ensures { IfOk result (λ number. number ≡ self.now.first + (end - self.now.span.first)) }
+    {
+        behind(self.span.first, end, self.first)
+    }
+
     /// The number behind the copies.
     pub fn number_behind(&self) -> Result<u32, AllocError>
-        ensures { IfOk result (λ number. number ≡ self.now.first + (self.now.owner - self.now.span.first)) }
+        ensures { IfOk result (λ number. number ≡ self.now.first + (self.now.span.end - self.now.span.first)) }
     {
-        behind(self.span.first, self.owner, self.first)
+        self.end_of_copies(self.span.end)
     }
 
     /// The region behind the copy of a region that ends in front of this one.

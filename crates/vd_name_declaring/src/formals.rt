@@ -2,7 +2,6 @@
 
 ghost use Rattle.std.specs.Prelude.{◌≡◌, OnOk};
 ghost use Rattle.vd_name_states.specs.Entering.{words_of};
-ghost use Rattle.vd_name_states.specs.Noting.{with_formal};
 ghost use Rattle.vd_naming.specs.Endings.{form_at as form_of_part, mode_of as mode_by, needs_value as is_value_needed, formal_of as formal_by, with_formals, with_formals_of};
 
 use crate::numbers::number_behind;
@@ -10,7 +9,8 @@ use std::alloc::AllocError;
 use vd_declarations::{Class, DeclId};
 use vd_forest::Cursor;
 use vd_forms::Form;
-use vd_name_states::{Formal, Names, Note};
+use vd_name_entering::note_formal;
+use vd_name_states::{Formal, Names};
 
 /// The form of the part of a number. That of a part that isn't there is that of one that is left out.
 fn form_at(number: u32, parts: &Cursor<'_, Form>) -> Form
@@ -64,18 +64,7 @@ fn formal_of(form: Form, parts: &Cursor<'_, Form>) -> Formal
     }
 }
 
-/// Notes what a declaration is as a port or generic.
-fn note_formal(names: &mut Names, id: DeclId, formal: Formal) -> Result<(), AllocError>
-    ensures { OnOk result (names.new ≡ with_formal id formal names.old) }
-{
-    let note = Note {
-        formal: Some(formal),
-        ..names.note(id)
-    };
-    names.put(id, note)
-}
-
-/// Notes the same of as many declarations as there are names, from a number on.
+/// Notes what ports or generics are: as many declarations as there are names, from a number on.
 fn note_formals(
     names: &mut Names,
     formal: Formal,

@@ -4,7 +4,7 @@ ghost use Rattle.std.specs.Prelude.{◌≡◌, ◌≤◌, List, IfOk, length};
 ghost use Rattle.vd_forest.specs.Forest.{Forest};
 ghost use Rattle.vd_forest.specs.Store.{Extends};
 ghost use Rattle.vd_resolved.specs.declared.node.Resolved.{Resolved};
-ghost use Rattle.vd_naming.specs.Endings.{is_bounded as has_bounds_of, can_be_narrower as may_be_narrower, form_of_next as form_behind, misfits as indication_misfits, indication_ends as indication_ended};
+ghost use Rattle.vd_naming.specs.Endings.{is_bounded as has_bounds_of, can_be_narrower as may_be_narrower, misfits as indication_misfits, indication_ends as indication_ended};
 ghost use Rattle.vd_name_outcomes.specs.Ended.{seen_ended};
 ghost use Rattle.vd_name_outcomes.specs.Made.{IsMade};
 
@@ -12,7 +12,7 @@ use std::alloc::AllocError;
 use vd_declarations::{Class, DeclId};
 use vd_forest::{Cursor, Store};
 use vd_forms::Form;
-use vd_name_outcomes::{Ended, Made, finished};
+use vd_name_outcomes::{Ended, Made, finished, form_of_next};
 use vd_name_paths::broken_if;
 use vd_name_states::Names;
 use vd_resolved::Resolved;
@@ -36,16 +36,6 @@ fn can_be_narrower(form: Form, names: &Names, class: &Class, named: Option<DeclI
         Form::IndexConstraint => element_of(*class).is_some() && !is_bounded(names, named),
         Form::RangeConstraint => is_scalar(*class),
         _ => true,
-    }
-}
-
-/// The form of the second tree. That of one that isn't there is that of one that is left out.
-pub fn form_of_next(parts: &Cursor<'_, Form>) -> Form
-    ensures { result ≡ form_behind parts.now }
-{
-    match parts.next().form() {
-        Some(form) => form,
-        None => Form::Absent,
     }
 }
 

@@ -14,7 +14,7 @@ pub mod types;
 pub mod words;
 
 pub use ends::{clause_ends, first_ends, nothing_ends, typed_ends};
-pub use indications::{form_of_next, indication_ends, is_bounded};
+pub use indications::{indication_ends, is_bounded};
 pub use objects::{enter_objects, objects_end};
 pub use ports::{enter_ports, ports_end};
 pub use subtypes::subtype_ends;

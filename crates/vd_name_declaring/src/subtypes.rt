@@ -10,7 +10,7 @@ ghost use Rattle.vd_naming.specs.Endings.{has_index_constraint as is_constrained
 ghost use Rattle.vd_name_outcomes.specs.Ended.{seen_ended};
 ghost use Rattle.vd_name_outcomes.specs.Made.{IsMade};
 
-use crate::indications::{form_of_next, is_bounded};
+use crate::indications::is_bounded;
 use crate::types::{declaration_or_zero, note_bounds};
 use crate::words::declared_word;
 use std::alloc::{AllocError, Global};
@@ -19,7 +19,7 @@ use vd_declarations::{Class, DeclId};
 use vd_forest::{Cursor, Store};
 use vd_forms::Form;
 use vd_name_entering::enter;
-use vd_name_outcomes::{Ended, Made, finished};
+use vd_name_outcomes::{Ended, Made, finished, form_of_next};
 use vd_name_states::Names;
 use vd_resolved::Resolved;
 

@@ -12,7 +12,6 @@ ghost use Rattle.vd_naming.specs.Endings.{closed, or_zero, has_range as has_inde
 ghost use Rattle.vd_name_outcomes.specs.Ended.{seen_ended};
 ghost use Rattle.vd_name_outcomes.specs.Made.{IsMade};
 
-use crate::indications::form_of_next;
 use crate::literals::with_literals;
 use crate::words::declared_word;
 use std::alloc::{AllocError, Global};
@@ -21,8 +20,8 @@ use vd_declarations::{Class, DeclId, Declaration, Declarations, RegionId, TypeId
 use vd_forest::{Cursor, Store};
 use vd_forms::Form;
 use vd_least::lesser;
-use vd_name_entering::{enter, enter_words};
-use vd_name_outcomes::{Ended, Made, finished};
+use vd_name_entering::{close, enter, enter_words};
+use vd_name_outcomes::{Ended, Made, finished, form_of_next};
 use vd_name_states::{Names, Note, Sort};
 use vd_resolved::Resolved;
 
@@ -161,17 +160,6 @@ fn record_of(alloc: Global, names: &Names, ended: &Ended<'_, '_>) -> Result<Decl
     declared.parameters = Declarations::of(elements);
     declared.inside = Some(region);
     Ok(declared)
-}
-
-/// The end of a region is reached. Where there is no such region the walk ends as where memory runs out.
-fn close(names: &mut Names, region: RegionId) -> Result<(), AllocError>
-    ensures { OnOk result (names.new ≡ closed region names.old) }
-{
-    if !names.regions().is_region(region) {
-        return Err(AllocError);
-    }
-    names.close(region);
-    Ok(())
 }
 
 /// Enters a record type.

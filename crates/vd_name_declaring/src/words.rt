@@ -5,7 +5,7 @@ ghost use Rattle.vd_name_states.specs.Entering.{declaration_of};
 
 use std::alloc::{AllocError, Global};
 use vd_declarations::{Class, Declaration, TypeId};
-use vd_name_entering::declaration_of as new_declaration;
+use vd_name_entering::named_at;
 use vd_name_outcomes::Ended;
 
 /// A declaration of a class and a type under the name that was read last in the parts of a node.
@@ -19,6 +19,5 @@ pub fn declared_word(
         declaration_of class.now (record { name = ended.now.inner.now.at.word; place = ended.now.inner.now.at.word_place }) mark) }
 {
     let inner = ended.inner;
-    let name = inner.at.word.name(alloc)?;
-    new_declaration(alloc, *class, name.as_slice(), inner.at.word_place, mark)
+    named_at(alloc, *class, &inner.at, mark)
 }

@@ -3,8 +3,10 @@
 
 pub mod declarations;
 pub mod entering;
+pub mod noting;
 pub mod words;
 
-pub use declarations::declaration_of;
+pub use declarations::{declaration_of, named_at};
 pub use entering::{enter, enter_as};
+pub use noting::{close, note_bodies, note_body, note_formal, note_span, note_tied, span_to};
 pub use words::enter_words;

@@ -18,20 +18,6 @@ use vd_name_reading::wants::is_discrete_type;
 use vd_name_reading::{can_select, refused_names};
 use vd_name_states::{At, Names};
 
-/// The place of the first tree.
-pub fn first_place(tree: &Cursor<'_, Form>) -> Place
-    ensures { result ≡ place_of_first tree.now }
-{
-    match tree.place() {
-        Some(place) => place,
-        None => Place {
-            file: 0,
-            line: 0,
-            column: 0,
-        },
-    }
-}
-
 /// The first name of a tree that is refused, or a rule that the whole breaks.
 pub fn names_or(
     alloc: Global,

@@ -1,6 +1,6 @@
 //! Expressions by what their place wants, where that is known.
 
-ghost use Rattle.std.specs.Prelude.{◌≡◌, IfOk};
+ghost use Rattle.std.specs.Prelude.{◌≡◌, IfOk, OnOk};
 ghost use Rattle.std.specs.Option.{option_copied};
 ghost use Rattle.vd_forest.specs.Forest.{nothing, more, with_next};
 ghost use Rattle.vd_forest.specs.Store.{Extends};
@@ -67,6 +67,7 @@ pub fn where_known(
 }
 
 /// One expression, which may be missing.
+#[tactic(auto, using(crate::proofs::StayLemmas::place_stays))]
 pub fn expression(
     alloc: Global,
     names: &Names,
@@ -77,6 +78,7 @@ pub fn expression(
 ) -> Result<Made, AllocError>
     requires alone { with_next tree.now nothing ≡ tree.now }
     ensures is { IfOk result (λ made. IsMade out.new names.now made (outcome_of want at.now names.now tree.now)) }
+    ensures at { OnOk result ((outcome_of want at.now names.now tree.now).at ≡ at.now) }
     ensures extends { Extends out.old out.new }
 {
     if is_absent(tree) {

@@ -105,6 +105,6 @@ pub fn type_declared(
     let Some(id) = declared else {
         return Ok(None);
     };
-    let place = names.surroundings(at.revision, at.region)?;
+    let place = names.surroundings(at)?;
     Ok(place.type_meant(id))
 }

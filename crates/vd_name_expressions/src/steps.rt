@@ -126,6 +126,7 @@ pub fn surplus(
 ) -> Result<Made, AllocError>
     ensures is { IfOk result (λ made. IsMade out.new names.now made
         (surplus_step at.now names.now node.now.place (more node.now.form node.now.text.now node.now.place node.now.parts nothing))) }
+    ensures at { OnOk result ((surplus_step at.now names.now node.now.place (more node.now.form node.now.text.now node.now.place node.now.parts nothing)).at ≡ at.now) }
     ensures extends { Extends out.old out.new }
 {
     let mut single = Store::new(alloc);

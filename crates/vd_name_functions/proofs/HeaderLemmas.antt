@@ -4,7 +4,6 @@ use Rattle.vd_bytes.specs.declared.answers.Refused.{Refused}
 use Rattle.vd_declarations.specs.declared.declarations.Declaration.{Declaration}
 use Rattle.vd_forest.specs.Forest.{Forest, nothing}
 use Rattle.vd_forest.specs.Store.{Holds}
-use Rattle.vd_least.specs.Least.{lesser}
 use Rattle.vd_resolved.specs.declared.node.Resolved.{Resolved}
 use Rattle.vd_name_states.specs.Designs.{At, Design, Outcome, gives}
 use Rattle.vd_name_outcomes.specs.Made.{IsMade}
@@ -26,34 +25,31 @@ pub same_place : (known : Option ℕ) (at : At) (d : Design) (new : Declaration)
 same_place None at d new tree first = refl
 same_place (Some k) at d new tree first = refl
 
-same_first : (known : Option ℕ) (at : At) (d : Design) (new : Declaration) (tree : Forest Resolved) (first : Option Refused)
-    → (header_ends_as known at d new (gives at d nothing first)).first ≡ (header_ends_as known at d new (gives at d tree first)).first
-same_first None at d new tree first = refl
-same_first (Some k) at d new tree first = refl
+first_kept : (known : Option ℕ) (at : At) (d : Design) (new : Declaration) (tree : Forest Resolved) (first : Option Refused)
+    → (header_ends_as known at d new (gives at d tree first)).first ≡ first
+first_kept None at d new tree first = refl
+first_kept (Some k) at d new tree first = refl
 
 -- a header that ends by what was found is the end of the header
 abbrev pub header_of : At → Design → Declaration
 header_of at d = written_function (record { name = at.word; place = at.word_place }) at.mark at.region d
 
-module _ (at : At) (d d' : Design) (known : Option ℕ) (new : Declaration) (tree : Forest Resolved) (before first : Option Refused) where
+module _ (at : At) (d d' : Design) (known : Option ℕ) (new : Declaration) (tree : Forest Resolved) (before : Option Refused) where
   ends_by : known ≡ declaration_of_body at d new → new ≡ header_of at d
       → header_ends_as known at d new (gives at d tree before) ≡ header_ends (gives at d tree before)
   ends_by found is =
       ap (λ k. header_ends_as k at d new (gives at d tree before)) found
       ∙ ap (λ n. header_ends_as (declaration_of_body at d n) at d n (gives at d tree before)) is
 
-  pub header_made : (store : List (Forest Resolved)) (made : ℕ) → known ≡ declaration_of_body at d new → new ≡ header_of at d
+  pub header_made : (store : List (Forest Resolved)) (made : Made) → known ≡ declaration_of_body at d new → new ≡ header_of at d
       → d' ≡ (header_ends_as known at d new (gives at d nothing None)).design
-      → lesser before first ≡ (header_ends_as known at d new (gives at d nothing before)).first
-      → (ended : Made) → ended.tree ≡ made → ended.first ≡ lesser before first
-      → Holds store made tree → IsMade store d' ended (header_ends (gives at d tree before))
-  header_made store made found is design refused ended tree_is first_is held =
-      let still : Holds store ended.tree tree = subst (λ n. Holds store n tree) (sym tree_is) held in
-      subst (IsMade store d' ended) (ends_by found is)
+      → made.first ≡ before → Holds store made.tree tree → IsMade store d' made (header_ends (gives at d tree before))
+  header_made store made found is design first_is held =
+      subst (IsMade store d' made) (ends_by found is)
       (record {
-        holds = record { within = still.within; is = still.is ∙ sym (tree_kept known at d new tree before) };
+        holds = record { within = held.within; is = held.is ∙ sym (tree_kept known at d new tree before) };
         design = design ∙ same_design known at d new tree before;
-        first = first_is ∙ refused ∙ same_first known at d new tree before;
+        first = first_is ∙ sym (first_kept known at d new tree before);
       })
 
   pub header_place : (at' : At) → known ≡ declaration_of_body at d new → new ≡ header_of at d

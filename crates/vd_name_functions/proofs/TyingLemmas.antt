@@ -5,7 +5,7 @@ use Rattle.vd_forest.specs.Forest.{Forest, nothing, more}
 use Rattle.vd_resolved.specs.declared.node.Resolved.{Resolved}
 use Rattle.vd_naming.specs.Endings.{Ended}
 use Rattle.vd_naming.specs.Functions.{stands_round, names_round, is_tied, is_uninstantiated_function}
-use Rattle.vd_regions.specs.Scopes.{declaration_at}
+use Rattle.vd_declarations.specs.declared.classes.Class.{Class}
 use Rattle.vd_name_functions.specs.Tying.{stands_beside, tied_by, tying_finder}
 
 found_in_one : {A : Type 0} (a b : Option A) → is_some (or_else a b) ≡ (is_some a || is_some b)
@@ -35,9 +35,9 @@ module _ (x : Ended) (k : ℕ) where
       ∙ ap (λ b. b || is_some (found next)) (found_round parts)
       ∙ ap (λ b. names_round x k parts || b) (found_round next))
 
-  pub tied_by_search : (tied : Bool) (region : ℕ) (tree : Forest Resolved) → is_uninstantiated_function (declaration_at x.inner.design.scopes k).class ≡ true
-      → region ≡ x.outer.region → tree ≡ x.inner.tree → tied ≡ is_some (first_found (tying_finder x.inner.design.scopes region k) tt tree) → tied ≡ is_tied x k
-  tied_by_search tied region tree has_generics region_is tree_is searched =
+  pub tied_by_search : (tied : Bool) (c : Class) (region : ℕ) (tree : Forest Resolved) → is_uninstantiated_function c ≡ true
+      → region ≡ x.outer.region → tree ≡ x.inner.tree → tied ≡ is_some (first_found (tying_finder x.inner.design.scopes region k) tt tree) → tied ≡ is_tied x c k
+  tied_by_search tied c region tree has_generics region_is tree_is searched =
       searched
       ∙ ap (λ r. is_some (first_found (tying_finder x.inner.design.scopes r k) tt tree)) region_is
       ∙ ap (λ t. is_some (found t)) tree_is ∙ found_round x.inner.tree

@@ -1,21 +1,26 @@
 //! The ends of functions.
 
-ghost use Rattle.std.specs.Prelude.{◌≡◌, ◌≤◌, IfOk, OnOk, length, if◌then◌else◌};
+ghost use Rattle.std.specs.Prelude.{◌≡◌, ◌≤◌, List, [], Some, None, IfOk, OnOk, length, if◌then◌else◌};
 ghost use Rattle.vd_forest.specs.Store.{Extends};
 ghost use Rattle.vd_name_outcomes.specs.Made.{IsMade};
 ghost use Rattle.vd_name_outcomes.specs.Ended.{seen_ended};
-ghost use Rattle.vd_naming.specs.Functions.{function_ends, body_ends};
+ghost use Rattle.vd_forest.specs.Forest.{Forest};
+ghost use Rattle.vd_resolved.specs.declared.node.Resolved.{Resolved as Node};
+ghost use Rattle.vd_naming.specs.Functions.{function_ends, body_of, body_ends, header_span};
+ghost use Rattle.vd_name_entering.specs.Entered.{IsEntered};
+ghost use Rattle.vd_name_functions.specs.Bodies.{ended_body};
+ghost use Rattle.vd_name_states.specs.Designs.{Design};
 ghost use Rattle.vd_name_states.specs.Noting.{with_body, tied_to};
 
-use crate::headers::function_read;
-use crate::noting::{note_body, note_span, note_tied};
+use crate::headers::{function_of_body, function_read};
 use crate::tying::is_tied;
 use std::alloc::{AllocError, Global};
-use vd_declarations::DeclId;
+use vd_bytes::Refused;
+use vd_declarations::{DeclId, Declaration};
 use vd_forest::Store;
-use vd_name_entering::enter;
+use vd_name_entering::{enter, note_body, note_span, note_tied, span_to};
 use vd_name_outcomes::{Ended, Made, finished};
-use vd_name_states::Names;
+use vd_name_states::{Names, Span};
 use vd_resolved::Resolved;
 
 /// A function without a body is declared at its end.
@@ -35,7 +40,8 @@ pub fn function_ends(
     let outer = ended.outer;
     let declared = function_read(alloc, names, &inner.at, inside.region)?;
     let first = enter(names, outer.region, declared)?;
-    note_span(names, id, inside.header, inside.region)?;
+    let span = span_to(names, inside.header, id.number(), inside.region)?;
+    note_span(names, id, span)?;
     let made = finished(ended, Some(id), None, ended.inner.tree, first, out)?;
     Ok(made)
 }
@@ -51,6 +57,78 @@ fn note_end(names: &mut Names, id: DeclId, tied: bool, unit: u32) -> Result<(), 
     Ok(())
 }
 
+/// The end of the body of a function that was declared before.
+fn known_body_ends(
+    alloc: Global,
+    names: &mut Names,
+    ended: &Ended<'_, '_>,
+    id: DeclId,
+    out: &mut Store<Resolved>,
+) -> Result<Made, AllocError>
+    requires { ended.now.inner.now.tree ≤ length out.old }
+    ensures is { IfOk result (λ made. IsMade out.new names.new made (body_of (Some id) (seen_ended out.old names.old ended.now))) }
+    ensures extends { Extends out.old out.new }
+{
+    let outer = ended.outer;
+    let class = names.class_of(id);
+    let tied = is_tied(alloc, names, ended, class, id, out)?;
+    note_end(names, id, tied, outer.unit)?;
+    let made = finished(ended, Some(id), None, ended.inner.tree, None, out)?;
+    Ok(made)
+}
+
+/// What the header of a body declares.
+fn header_span(ended: &Ended<'_, '_>) -> Span
+    ensures { (store : List (Forest Node)) (d : Design) → result ≡ header_span (seen_ended store d ended.now) }
+{
+    let inner = ended.inner;
+    let inside = ended.inside;
+    Span {
+        first: inside.header,
+        end: inner.at.header_end,
+        first_region: inside.region.number(),
+        end_region: inner.at.header_regions,
+    }
+}
+
+/// Enters the function that a body declares, and notes that its body has ended.
+fn enter_body(
+    names: &mut Names,
+    ended: &Ended<'_, '_>,
+    id: DeclId,
+    tied: bool,
+    new: Declaration,
+) -> Result<Option<Refused>, AllocError>
+    ensures { IfOk result (λ first. IsEntered names.new first
+        (ended_body (seen_ended [] names.old ended.now) tied id new)) }
+{
+    let outer = ended.outer;
+    let span = header_span(ended);
+    let first = enter(names, outer.region, new)?;
+    note_span(names, id, span)?;
+    note_end(names, id, tied, outer.unit)?;
+    Ok(first)
+}
+
+/// The end of the body of a function that has no other declaration.
+fn new_body_ends(
+    alloc: Global,
+    names: &mut Names,
+    ended: &Ended<'_, '_>,
+    out: &mut Store<Resolved>,
+) -> Result<Made, AllocError>
+    requires { ended.now.inner.now.tree ≤ length out.old }
+    ensures is { IfOk result (λ made. IsMade out.new names.new made (body_of None (seen_ended out.old names.old ended.now))) }
+    ensures extends { Extends out.old out.new }
+{
+    let id = DeclId::of(names.next_number()?);
+    let new = function_of_body(alloc, names, ended)?;
+    let tied = is_tied(alloc, names, ended, new.class, id, out)?;
+    let first = enter_body(names, ended, id, tied, new)?;
+    let made = finished(ended, Some(id), None, ended.inner.tree, first, out)?;
+    Ok(made)
+}
+
 /// The end of the body of a function.
 pub fn body_ends(
     alloc: Global,
@@ -64,17 +142,8 @@ pub fn body_ends(
 {
     let inner = ended.inner;
     let at = &inner.at;
-    let outer = ended.outer;
     match at.function {
-        None => {
-            let made = finished(ended, None, None, ended.inner.tree, None, out)?;
-            Ok(made)
-        }
-        Some(id) => {
-            let tied = is_tied(alloc, names, ended, id, out)?;
-            note_end(names, id, tied, outer.unit)?;
-            let made = finished(ended, Some(id), None, ended.inner.tree, None, out)?;
-            Ok(made)
-        }
+        None => new_body_ends(alloc, names, ended, out),
+        Some(id) => known_body_ends(alloc, names, ended, id, out),
     }
 }

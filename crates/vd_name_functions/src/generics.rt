@@ -13,12 +13,11 @@ ghost use Rattle.vd_name_states.specs.Entering.{declaration_of};
 ghost use Rattle.vd_naming.specs.Functions.{function_of, generic_function_ends, generic_type_ends};
 
 use crate::headers::function_of;
-use crate::noting::note_formal;
 use std::alloc::{AllocError, Global};
 use vd_declarations::{Class, DeclId, Declaration, RegionId, TypeId};
 use vd_forest::{Cursor, Store};
 use vd_forms::Form;
-use vd_name_entering::{declaration_of, enter};
+use vd_name_entering::{declaration_of, enter, note_formal};
 use vd_name_outcomes::{Ended, Made, finished};
 use vd_name_states::{At, Formal, Names};
 use vd_resolved::Resolved;

@@ -1,12 +1,18 @@
 //! Functions as their headers declare them.
 
-ghost use Rattle.std.specs.Prelude.{◌≡◌, IfOk};
-ghost use Rattle.vd_naming.specs.Functions.{function_class, function_of, written_function};
+ghost use Rattle.std.specs.Prelude.{◌≡◌, List, IfOk};
+ghost use Rattle.vd_forest.specs.Forest.{Forest};
+ghost use Rattle.vd_resolved.specs.declared.node.Resolved.{Resolved as Node};
+ghost use Rattle.vd_name_outcomes.specs.Ended.{seen_ended};
+ghost use Rattle.vd_naming.specs.Functions.{function_class, function_of, written_function, designator, function_of_body};
 
 use std::alloc::{AllocError, Global};
 use vd_bytes::{Place, Text};
 use vd_declarations::{Class, DeclId, Declaration, Declarations, Made, RegionId, TypeId};
-use vd_name_states::{At, Names, Sort};
+use vd_forest::Cursor;
+use vd_forms::Form;
+use vd_name_outcomes::Ended;
+use vd_name_states::{At, Names, Sort, Word};
 
 /// What kind of function it is that has these generics.
 fn function_class(generics: &[DeclId]) -> Class
@@ -82,4 +88,48 @@ pub(crate) fn function_read(
         at.mark,
         region,
     )
+}
+
+/// The place of a designator that isn't there.
+const NO_PLACE: Place = Place {
+    file: 0,
+    line: 0,
+    column: 0,
+};
+
+/// The function whose designator is the first tree, with this type, which has no declaration but its body.
+fn designated(
+    alloc: Global,
+    names: &Names,
+    trees: &Cursor<'_, Form>,
+    mark: Option<TypeId>,
+    region: RegionId,
+) -> Result<Declaration, AllocError>
+    ensures { IfOk result (λ made. made ≡ written_function (designator trees.now) mark region names.now) }
+{
+    match trees.open() {
+        None => written_function(alloc, names, &[], NO_PLACE, mark, region),
+        Some(first) => {
+            let word = Word {
+                form: first.form,
+                text: first.text,
+            };
+            let name = word.name(alloc)?;
+            written_function(alloc, names, name.as_slice(), first.place, mark, region)
+        }
+    }
+}
+
+/// The function that a body declares, whose designator is its second part.
+pub(crate) fn function_of_body(
+    alloc: Global,
+    names: &Names,
+    ended: &Ended<'_, '_>,
+) -> Result<Declaration, AllocError>
+    ensures { (store : List (Forest Node)) → IfOk result (λ made. made ≡ function_of_body (seen_ended store names.now ended.now)) }
+{
+    let inner = ended.inner;
+    let inside = ended.inside;
+    let designator = ended.node.parts.next();
+    designated(alloc, names, &designator, inner.at.result, inside.region)
 }

@@ -6,7 +6,6 @@ pub mod endings;
 pub mod generics;
 pub mod headers;
 pub mod matching;
-mod noting;
 pub mod results;
 mod tying;
 
@@ -14,5 +13,4 @@ pub use endings::{body_ends, function_ends};
 pub use generics::{generic_function_ends, generic_type_ends};
 pub use headers::{function_of, written_function};
 pub use matching::declaration_of_body;
-pub use noting::{note_body, note_formal, note_span, note_tied};
 pub use results::{end_header, result_mark};

@@ -1,26 +1,20 @@
 //! The type of a result, with which the header of a body ends.
 
-ghost use Rattle.std.specs.Prelude.{◌≡◌, IfOk, OnOk, List, Option, None};
-ghost use Rattle.vd_bytes.specs.declared.answers.Refused.{Refused as Broken};
+ghost use Rattle.std.specs.Prelude.{◌≡◌, IfOk, OnOk, List, None};
 ghost use Rattle.vd_forest.specs.Forest.{Forest, nothing, more};
 ghost use Rattle.vd_forest.specs.Store.{Holds, Extends};
-ghost use Rattle.vd_least.specs.Least.{lesser as lesser_refusal};
 ghost use Rattle.vd_resolved.specs.declared.node.Resolved.{Resolved as Node};
 ghost use Rattle.vd_name_states.specs.Designs.{gives};
 ghost use Rattle.vd_name_outcomes.specs.Made.{IsMade};
 ghost use Rattle.vd_naming.specs.Paths.{mark};
-ghost use Rattle.vd_naming.specs.Functions.{body_known, body_entered, header_ends, header_ends_as};
+ghost use Rattle.vd_naming.specs.Functions.{body_known, body_begun, header_ends, header_ends_as};
 
 use crate::headers::function_read;
 use crate::matching::{declaration_of_body, header_of};
-use crate::noting::note_span;
 use std::alloc::{AllocError, Global};
-use vd_bytes::Refused;
 use vd_declarations::{DeclId, Declaration};
 use vd_forest::{Opened, Store};
 use vd_forms::Form;
-use vd_least::lesser;
-use vd_name_entering::enter;
 use vd_name_outcomes::{Made, one_tree};
 use vd_name_paths::{Fit, fits_are_tests, named_as};
 use vd_name_states::{At, Names, Taken};
@@ -49,27 +43,17 @@ fn body_known(
     Ok(())
 }
 
-/// The body declares the function.
-fn body_entered(
-    names: &mut Names,
-    at: &mut At<'_>,
-    new: Declaration,
-) -> Result<Option<Refused>, AllocError>
-    ensures design { OnOk result (names.new ≡ (body_entered at.old names.old new (gives at.old names.old nothing None)).design) }
-    ensures at { OnOk result (at.new ≡ (body_entered at.old names.old new (gives at.old names.old nothing None)).at) }
-    ensures first { IfOk result (λ first. (other : Option Broken)
-        → lesser_refusal other first ≡ (body_entered at.old names.old new (gives at.old names.old nothing other)).first) }
+/// The function is declared at the end of its body.
+fn body_begun(names: &Names, at: &mut At<'_>, new: &Declaration) -> Result<(), AllocError>
+    ensures { OnOk result (at.new ≡ (body_begun names.now new.now (gives at.old names.now nothing None)).at) }
 {
-    let number = names.next_number()?;
-    let id = DeclId::of(number);
-    let region = names.regions().round(at.region);
-    let mark = new.mark;
-    let first = enter(names, region, new)?;
-    note_span(names, id, at.header, at.region)?;
-    at.function = Some(id);
-    at.result = mark;
-    at.header_end = number;
-    Ok(first)
+    let end = names.next_number()?;
+    let regions = names.next_region()?;
+    at.function = None;
+    at.result = new.mark;
+    at.header_end = end;
+    at.header_regions = regions;
+    Ok(())
 }
 
 /// The one or the other.
@@ -77,22 +61,14 @@ fn header_ends_as(
     names: &mut Names,
     at: &mut At<'_>,
     known: Option<DeclId>,
-    new: Declaration,
-) -> Result<Option<Refused>, AllocError>
-    ensures design { OnOk result (names.new ≡ (header_ends_as known at.old names.old new (gives at.old names.old nothing None)).design) }
-    ensures at { OnOk result (at.new ≡ (header_ends_as known at.old names.old new (gives at.old names.old nothing None)).at) }
-    ensures first { IfOk result (λ first. (other : Option Broken)
-        → lesser_refusal other first ≡ (header_ends_as known at.old names.old new (gives at.old names.old nothing other)).first) }
+    new: &Declaration,
+) -> Result<(), AllocError>
+    ensures design { OnOk result (names.new ≡ (header_ends_as known at.old names.old new.now (gives at.old names.old nothing None)).design) }
+    ensures at { OnOk result (at.new ≡ (header_ends_as known at.old names.old new.now (gives at.old names.old nothing None)).at) }
 {
     match known {
-        None => {
-            let first = body_entered(names, at, new)?;
-            Ok(first)
-        }
-        Some(id) => {
-            body_known(names, at, id, &new)?;
-            Ok(None)
-        }
+        None => body_begun(names, at, new),
+        Some(id) => body_known(names, at, id, new),
     }
 }
 
@@ -109,11 +85,8 @@ pub fn end_header(
 {
     let new = function_read(alloc, names, at, at.region)?;
     let known = declaration_of_body(alloc, names, at, &new)?;
-    let first = header_ends_as(names, at, known, new)?;
-    Ok(Made {
-        tree: made.tree,
-        first: lesser(made.first, first),
-    })
+    header_ends_as(names, at, known, &new)?;
+    Ok(made)
 }
 
 /// The type of the result of a body, with which its header ends.

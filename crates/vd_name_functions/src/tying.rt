@@ -103,18 +103,19 @@ fn is_uninstantiated_function(class: Class) -> bool
     matches!(class, Class::UninstantiatedFunction)
 }
 
-/// Whether the body of a function with generics names another declaration of the region round it.
+/// Whether the body of a function of this class and number has generics and names another declaration of the region round it.
 pub(crate) fn is_tied(
     alloc: Global,
     names: &Names,
     ended: &Ended<'_, '_>,
+    class: Class,
     id: DeclId,
     out: &Store<Resolved>,
 ) -> Result<bool, AllocError>
     requires { ended.now.inner.now.tree ≤ length out.now }
-    ensures { IfOk result (λ tied. tied ≡ is_tied (seen_ended out.now names.now ended.now) id) }
+    ensures { IfOk result (λ tied. tied ≡ is_tied (seen_ended out.now names.now ended.now) class id) }
 {
-    if !is_uninstantiated_function(names.class_of(id)) {
+    if !is_uninstantiated_function(class) {
         return Ok(false);
     }
     let body = out.cursor(ended.inner.tree);

@@ -8,7 +8,7 @@ ghost use Rattle.vd_naming.specs.Instances.{wants_body as needs_body, lacks_body
 
 use std::alloc::AllocError;
 use vd_declarations::{Class, DeclId};
-use vd_name_functions::note_body;
+use vd_name_entering::note_body;
 use vd_name_states::Names;
 
 /// Whether a class is that of a function that is written, with generics or without.

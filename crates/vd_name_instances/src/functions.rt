@@ -11,7 +11,7 @@ ghost use Rattle.vd_name_outcomes.specs.Made.{IsMade};
 ghost use Rattle.vd_name_outcomes.specs.Ended.{seen_ended};
 
 use crate::bodies::{is_tied_elsewhere, note_instance};
-use crate::refusals::{actuals_at, named_at, refused_also, refused_entry};
+use crate::refusals::{actuals_at, refused_also, refused_entry};
 use crate::settled::are_settled;
 use crate::symbols::is_wrong_symbol;
 use std::alloc::{AllocError, Global};
@@ -20,7 +20,7 @@ use vd_declarations::{Class, DeclId, Declaration, RegionId};
 use vd_forest::Store;
 use vd_least::lesser;
 use vd_name_copies::{Instance, add_copies};
-use vd_name_entering::enter;
+use vd_name_entering::{enter, named_at};
 use vd_name_outcomes::{Ended, Made, finished};
 use vd_name_paths::broken_if;
 use vd_name_states::{At, Names};

@@ -9,15 +9,17 @@ ghost use Rattle.vd_name_outcomes.specs.Made.{IsMade};
 ghost use Rattle.vd_name_outcomes.specs.Ended.{seen_ended};
 
 use crate::bodies::lacks_body;
-use crate::refusals::{actuals_at, enter_unit, named_at, refused_also, refused_unit};
+use crate::refusals::{actuals_at, refused_also, refused_unit};
 use crate::settled::are_settled;
 use std::alloc::{AllocError, Global};
 use vd_declarations::{Class, DeclId, Declaration};
 use vd_forest::Store;
 use vd_name_copies::{Instance, add_copies};
+use vd_name_entering::named_at;
 use vd_name_outcomes::{Ended, Made, finished};
 use vd_name_paths::broken_if;
 use vd_name_states::{At, Names};
+use vd_name_units::enter_unit;
 use vd_resolved::Resolved;
 
 /// The declaration of an instance, with the name that was read last at a place.

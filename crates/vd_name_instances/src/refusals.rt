@@ -2,16 +2,14 @@
 
 ghost use Rattle.std.specs.Prelude.{◌≡◌, IfOk};
 ghost use Rattle.vd_least.specs.Least.{lesser as lesser_refusal};
-ghost use Rattle.vd_name_states.specs.Entering.{entering_as, declaration_of as declaration_with};
+ghost use Rattle.vd_name_states.specs.Entering.{entering_as};
 ghost use Rattle.vd_naming.specs.Units.{entering_unit};
-ghost use Rattle.vd_name_entering.specs.Entered.{IsEntered};
 
-use std::alloc::{AllocError, Global};
+use std::alloc::AllocError;
 use vd_bytes::Refused;
-use vd_declarations::{Class, Declaration, RegionId, TypeId};
+use vd_declarations::{Declaration, RegionId};
 use vd_given::numbers::REGION_OF_WORK;
 use vd_least::lesser;
-use vd_name_entering::{declaration_of, enter_as};
 use vd_name_outcomes::Made;
 use vd_name_states::{Actual, At, Names};
 use vd_name_units::refused_word;
@@ -43,31 +41,6 @@ pub(crate) fn refused_unit(
 {
     let homograph = refused_entry(names, 301, RegionId::of(REGION_OF_WORK), declared)?;
     Ok(lesser(homograph, refused_word(declared)))
-}
-
-/// Enters a unit in `work`.
-pub(crate) fn enter_unit(
-    names: &mut Names,
-    declared: Declaration,
-) -> Result<Option<Refused>, AllocError>
-    ensures { IfOk result (λ first. IsEntered names.new first (entering_unit declared names.old)) }
-{
-    let word = refused_word(&declared);
-    let homograph = enter_as(names, 301, RegionId::of(REGION_OF_WORK), declared)?;
-    Ok(lesser(homograph, word))
-}
-
-/// A declaration of a class and a type, with the name that was read last at a place.
-pub(crate) fn named_at(
-    alloc: Global,
-    class: Class,
-    at: &At<'_>,
-    mark: Option<TypeId>,
-) -> Result<Declaration, AllocError>
-    ensures { IfOk result (λ made. made ≡ declaration_with class (record { name = at.now.word; place = at.now.word_place }) mark) }
-{
-    let name = at.word.name(alloc)?;
-    declaration_of(alloc, class, name.as_slice(), at.word_place, mark)
 }
 
 /// The actuals that were read at a place.

@@ -74,7 +74,7 @@ fn label_meant(
         (label_meant_by (some_or 303 ((sight at.now names.now).visible node.now.text.now)) at.now names.now node.now.form node.now.text.now node.now.place)) }
     ensures extends { Extends out.old out.new }
 {
-    let place = names.surroundings(at.revision, at.region)?;
+    let place = names.surroundings(at)?;
     let meant = visible_meant(alloc, &place, node.text)?;
     let named = one_that(names, &place, Fit::LoopLabel, &meant);
     let first = refused_of(&named, &meant, node.place);

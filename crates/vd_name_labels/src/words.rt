@@ -4,13 +4,12 @@ ghost use Rattle.std.specs.Prelude.{◌≡◌, IfOk, OnOk};
 ghost use Rattle.vd_forest.specs.Forest.{nothing, more};
 ghost use Rattle.vd_forest.specs.Store.{Extends};
 ghost use Rattle.vd_naming.specs.Statements.{skipped as skipped_step, word as word_step, simple_name as simple_name_step};
-ghost use Rattle.vd_naming.specs.Units.{is_single as has_one_piece};
 ghost use Rattle.vd_name_outcomes.specs.Made.{IsMade};
 
 use std::alloc::{AllocError, Global};
 use vd_forest::{Cursor, Opened, Store};
 use vd_forms::Form;
-use vd_name_outcomes::{Made, unresolved_node};
+use vd_name_outcomes::{Made, is_single, unresolved_node};
 use vd_name_paths::broken_if;
 use vd_name_states::{At, Names, Word};
 use vd_resolved::Resolved;
@@ -52,16 +51,6 @@ pub fn word<'a>(
     at.word_place = node.place;
     let tree = unresolved_node(alloc, node, out)?;
     Ok(Made { tree, first: None })
-}
-
-/// Whether a name has one piece.
-pub fn is_single(pieces: &Cursor<'_, Form>) -> bool
-    ensures { result ≡ has_one_piece pieces.now }
-{
-    match pieces.open() {
-        None => false,
-        Some(first) => first.next.open().is_none(),
-    }
 }
 
 /// The same as a word where the grammar has a selected name, which has to be one identifier.

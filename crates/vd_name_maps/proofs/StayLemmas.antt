@@ -1,35 +1,25 @@
 -- The elements of a map change nothing of the place and of the design.
-use Rattle.std.proofs.Common.{◌≡◌, ℕ, List, [], ◌∷◌, Option, Some, None, refl}
+use Rattle.std.proofs.Common.{ℕ, List, [], ◌∷◌, Option, Some, None, refl}
 use Rattle.vd_bytes.specs.declared.places.Place.{Place}
 use Rattle.vd_declarations.specs.declared.classes.Class.{Class}
 use Rattle.vd_declarations.specs.declared.classes.Class.TheVariants as class
 use Rattle.vd_forest.specs.Forest.{Forest, nothing, more}
 use Rattle.vd_forms.specs.declared.form.Form.{Form}
 use Rattle.vd_forms.specs.declared.form.Form.TheVariants as form
-use Rattle.vd_overloads.specs.declared.wanted.Wanted.{Wanted}
 use Rattle.vd_overloads.specs.declared.wanted.Wanted.TheVariants as wanted
 use Rattle.vd_sights.specs.Sights.{class_of, mark_of}
 use Rattle.vd_name_states.specs.Designs.{At, Design, Outcome}
 use Rattle.vd_naming.specs.Associations.{Element}
-use Rattle.vd_naming.specs.Expressions.{where_known, with_mark}
+use Rattle.vd_naming.specs.Expressions.{with_mark}
+use Rattle.vd_name_expressions.proofs.StayLemmas.{Stays, known_stays}
 use Rattle.vd_naming.specs.Actuals.{Known, mark_in, constant_outcome, outcome_for}
 use Rattle.vd_naming.specs.Generics.{in_element, element_outcome, elements_outcome}
 
-pub record Stays (at : At) (d : Design) (o : Outcome) : Type 0 where
-  pub place : o.at ≡ at
-  pub design : o.design ≡ d
-
 module _ (at : At) (d : Design) where
-  known_stays : (w : Option Wanted) (tree : Forest Form) → Stays at d (where_known w at d tree)
-  known_stays None tree = record { place = refl; design = refl }
-  known_stays (Some w) nothing = record { place = refl; design = refl }
-  known_stays (Some w) (more form.DiscreteSubtype text place parts next) = record { place = refl; design = refl }
-  known_stays (Some w) (more _ text place parts next) = record { place = refl; design = refl }
-
   module _ (k : Known) (g : ℕ) (place : Place) where
     constant_stays : (tree : Forest Form) → Stays at d (constant_outcome at d k g place tree)
     constant_stays tree =
-        let inner = known_stays (with_mark wanted.OfType (mark_in k (mark_of k.sight g))) tree in
+        let inner = known_stays at d (with_mark wanted.OfType (mark_in k (mark_of k.sight g))) tree in
         record { place = inner.place; design = inner.design }
 
     pub outcome_stays : (c : Class) (tree : Forest Form) → Stays at d (outcome_for c at d k g place tree)

@@ -45,7 +45,7 @@ fn map_between(
         ≡ (map_with generics.now elements.now at.now names.now node.now.form node.now.text.now node.now.place node.now.parts).at) }
     ensures extends { Extends out.old out.new }
 {
-    let place = names.surroundings(at.revision, at.region)?;
+    let place = names.surroundings(at)?;
     let types = types_given(alloc, names, at, elements.as_slice())?;
     let stand_ins = StandIns::of(alloc, generics, types.as_slice())?;
     let known = Known {

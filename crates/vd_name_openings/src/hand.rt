@@ -2,23 +2,13 @@
 
 ghost use Rattle.std.specs.Prelude.{◌≡◌};
 ghost use Rattle.vd_forms.specs.Forms.{same_form};
-ghost use Rattle.vd_naming.specs.Endings.{form_of_next as next_form};
 ghost use Rattle.vd_naming.specs.Openings.{has_form, is_loop as loop_form};
 ghost use Rattle.vd_name_openings.specs.Opened.{at_hand};
 
 use vd_forest::{Cursor, Opened};
 use vd_forms::Form;
+use vd_name_outcomes::form_of_next;
 use vd_name_states::{At, Opening};
-
-/// The form of the second tree.
-pub(crate) fn form_of_next(parts: &Cursor<'_, Form>) -> Form
-    ensures { result ≡ next_form parts.now }
-{
-    match parts.next().form() {
-        Some(form) => form,
-        None => Form::Absent,
-    }
-}
 
 fn is_matching(form: Form) -> bool
     ensures { result ≡ same_form Form.Matching form }

@@ -6,13 +6,13 @@ ghost use Rattle.vd_naming.specs.Openings.{in_region, nested, with_header, entit
 ghost use Rattle.vd_naming.specs.Units.{round_unit as region_round};
 ghost use Rattle.vd_name_openings.specs.Opened.{IsOpened};
 
-use crate::hand::form_of_next;
 use std::alloc::{AllocError, Global};
 use vd_declarations::RegionId;
 use vd_forest::Cursor;
 use vd_forms::Form;
 use vd_given::numbers::REGION_OF_LIBRARIES;
 use vd_name_lookup::{region_inside, round_unit, unit_named};
+use vd_name_outcomes::form_of_next;
 use vd_name_states::{At, Names, Sort};
 
 /// A region inside another, which may continue one.

@@ -98,7 +98,7 @@ pub fn named_as(
     ensures first { IfOk result (λ found. found.first ≡ (named_to_fit fit at.now names.now first tree.now).first) }
     ensures extends { Extends out.old out.new }
 {
-    let place = names.surroundings(at.revision, at.region)?;
+    let place = names.surroundings(at)?;
     let pieces = tree.parts();
     let meant = path_meant(alloc, &place, &pieces)?;
     let outside = path_outside(alloc, names, &place, at.region, &pieces)?;

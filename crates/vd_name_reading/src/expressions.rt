@@ -35,7 +35,7 @@ pub fn read_as(
     ensures is { IfOk result (λ read. IsRead out.new read (outcome_of at.now names.now wanted.now tree.now)) }
     ensures extends { Extends out.old out.new }
 {
-    let place = names.surroundings(at.revision, at.region)?;
+    let place = names.surroundings(at)?;
     let pieces = refused_pieces(alloc, names, &place, at.region, tree)?;
     let read = read_beside(alloc, names, at, wanted, tree, pieces, out)?;
     Ok(read)
@@ -53,7 +53,7 @@ pub fn read_as_mark(
     ensures is { IfOk result (λ read. IsRead out.new read (outcome_of_mark at.now names.now tree.now)) }
     ensures extends { Extends out.old out.new }
 {
-    let place = names.surroundings(at.revision, at.region)?;
+    let place = names.surroundings(at)?;
     let pieces = refused_pieces(alloc, names, &place, at.region, tree)?;
     let read = mark_read_beside(alloc, names, at, tree, pieces, out)?;
     Ok(read)
@@ -68,7 +68,7 @@ pub fn refused_names(
 ) -> Result<Option<Refused>, AllocError>
     ensures { IfOk result (λ found. found ≡ refusal_of_names at.now names.now trees.now) }
 {
-    let place = names.surroundings(at.revision, at.region)?;
+    let place = names.surroundings(at)?;
     let pieces = refused_pieces(alloc, names, &place, at.region, trees)?;
     let value = Want::Value(TypeId::of(BOOLEAN));
     let name = first_refusal(&place, alloc, &value, trees)?;

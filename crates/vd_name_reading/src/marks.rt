@@ -50,7 +50,7 @@ fn no_mark(name: Option<Refused>, place: Place) -> Option<Refused>
 }
 
 /// The place of an expression's first token.
-fn first_place(tree: &Cursor<'_, Form>) -> Place
+pub fn first_place(tree: &Cursor<'_, Form>) -> Place
     ensures { result ≡ place_of_first tree.now }
 {
     match tree.open() {
@@ -87,7 +87,7 @@ pub fn only_mark(
     ensures extends { Extends out.old out.new }
 {
     let env = Env {
-        surroundings: names.surroundings(at.revision, at.region)?,
+        surroundings: names.surroundings(at)?,
     };
     let states = mark_states(alloc, &env.surroundings)?;
     let found = read(alloc, &env, tree, &states, out)?;
@@ -103,7 +103,7 @@ fn refused_mark(
 ) -> Result<Option<Refused>, AllocError>
     ensures { IfOk result (λ first. first ≡ refused_mark at.now names.now tree.now) }
 {
-    let place = names.surroundings(at.revision, at.region)?;
+    let place = names.surroundings(at)?;
     let mark = Want::Mark(TypeId::of(BOOLEAN));
     let name = first_refusal(&place, alloc, &mark, tree)?;
     Ok(no_mark(name, first_place(tree)))

@@ -38,7 +38,7 @@ pub fn read_beside(
     ensures extends { Extends out.old out.new }
 {
     let env = Env {
-        surroundings: names.surroundings(at.revision, at.region)?,
+        surroundings: names.surroundings(at)?,
     };
     match resolve_expr(alloc, &env, tree, wanted, out) {
         Ok(number) => {

@@ -51,6 +51,8 @@ pub record At : Type 0 where
   -- the region of the place, and whether it is that of a package declaration
   pub region : ℕ
   pub is_package : Bool
+  -- the region of the ports that are looked up first
+  pub ports : Option ℕ
   -- the name that was read last, and the place of it
   pub word : List ℕ
   pub word_place : Place
@@ -68,9 +70,11 @@ pub record At : Type 0 where
   pub viewed : Option ℕ
   -- the actuals of types and functions in a generic map that was read
   pub actuals : List Actual
-  -- the number of the first declaration of the header round the place, that of the first one behind it, and the function whose body is round the place
+  -- the number of the first declaration of the header round the place, those of the first declaration and region behind it, and the function whose body is
+  -- round the place, where it was declared before
   pub header : ℕ
   pub header_end : ℕ
+  pub header_regions : ℕ
   pub function : Option ℕ
   -- the number that the next name of a list gets
   pub next : ℕ
@@ -79,7 +83,7 @@ pub record At : Type 0 where
   pub rest : Step
 
 abbrev pub standpoint : At → Design → Standpoint
-standpoint at d = record { revision = at.revision; scopes = d.scopes; region = at.region }
+standpoint at d = record { revision = at.revision; scopes = d.scopes; region = at.region; ports = at.ports }
 
 abbrev pub sight : At → Design → Sight
 sight at d = sight_from (standpoint at d)

@@ -57,14 +57,17 @@ with_formal k f d = with_note k (record (note_at d k) { formal = Some f }) d
 -- ---- headers of functions, and packages with generics
 
 abbrev pub no_span : Span
-no_span = record { first = 0; first_region = 0; end_region = 0 }
+no_span = record { first = 0; end = 0; first_region = 0; end_region = 0 }
 
 abbrev pub span_at : Design → ℕ → Span
 span_at d k = unwrap_or (note_at d k).span no_span
 
-abbrev pub with_span : (owner first first_region : ℕ) → Design → Design
-with_span owner first first_region d =
-    with_note owner (record (note_at d owner) { span = Some (record { first = first; first_region = first_region; end_region = next_region d }) }) d
+abbrev pub with_span : ℕ → Span → Design → Design
+with_span owner span d = with_note owner (record (note_at d owner) { span = Some span }) d
+
+-- one whose regions end where the next one would stand
+abbrev pub span_to : (first end first_region : ℕ) → Design → Span
+span_to first end first_region d = record { first = first; end = end; first_region = first_region; end_region = next_region d }
 
 -- ---- functions with generics whose bodies are tied to a unit
 

@@ -37,6 +37,8 @@ pub struct At<'a> {
     /// The region of the place, and whether it is that of a package declaration.
     pub region: RegionId,
     pub is_package: bool,
+    /// The region of the ports that are looked up first.
+    pub ports: Option<RegionId>,
     /// The name that was read last, and its place.
     pub word: Word<'a>,
     pub word_place: Place,
@@ -56,10 +58,11 @@ pub struct At<'a> {
     pub viewed: Option<TypeId>,
     /// The actuals of types and functions in the generic map that was read.
     pub actuals: Vec<Actual>,
-    /// The first declaration of the header round the place, and that behind its last one.
+    /// The first declaration of the header round the place, that behind its last one, and the region behind its last one.
     pub header: u32,
     pub header_end: u32,
-    /// The function whose body is round the place.
+    pub header_regions: u32,
+    /// The function whose body is round the place, where it was declared before.
     pub function: Option<DeclId>,
     /// The number that the next name of a list gets.
     pub next: u32,
@@ -79,6 +82,7 @@ impl<'a> Model for At<'a> {
       unit = a.unit;
       region = a.region;
       is_package = a.is_package;
+      ports = a.ports;
       word = declared_name a.word.form a.word.text.now;
       word_place = a.word_place;
       label_place = a.label_place;
@@ -92,6 +96,7 @@ impl<'a> Model for At<'a> {
       actuals = a.actuals.items;
       header = a.header;
       header_end = a.header_end;
+      header_regions = a.header_regions;
       function = a.function;
       next = a.next;
       steps = a.steps.now;
@@ -123,6 +128,7 @@ impl<'a> At<'a> {
             unit: self.unit,
             region: self.region,
             is_package: self.is_package,
+            ports: self.ports,
             word: self.word,
             word_place: self.word_place,
             label_place: self.label_place,
@@ -136,6 +142,7 @@ impl<'a> At<'a> {
             actuals: Vec::from_slice(alloc, self.actuals.as_slice())?,
             header: self.header,
             header_end: self.header_end,
+            header_regions: self.header_regions,
             function: self.function,
             next: self.next,
             steps: self.steps,

@@ -7,9 +7,10 @@ ghost use Rattle.vd_regions.specs.Homographs.{homograph};
 ghost use Rattle.vd_given.specs.Entries.{with_entry};
 ghost use Rattle.vd_given.specs.Given.{with_end};
 ghost use Rattle.vd_given.specs.Operators.{with_operators_of};
-ghost use Rattle.vd_name_states.specs.Designs.{note_at, with_note, with_scopes, put_note, begin_design};
+ghost use Rattle.vd_name_states.specs.Designs.{note_at, with_note, with_scopes, put_note, begin_design, standpoint};
 ghost use Rattle.vd_name_states.specs.Members.{numbers_in, declared_in, next_number, next_region, is_of};
 
+use crate::at::At;
 use crate::counts::Counts;
 use crate::notes::{NO_NOTE, Note, Taken, put_at};
 use crate::sorts::Sort;
@@ -19,7 +20,6 @@ use vd_declarations::{Class, DeclId, Declaration, RegionId, TypeId};
 use vd_given::bring_operators;
 use vd_regions::Regions;
 use vd_sights::Surroundings;
-use vd_trees::Revision;
 
 /// The declarations and regions of a design so far, what is noted of declarations beside, and the headers of bodies that stand for those of
 /// declarations. After an Err from a call that changes it, each later one may end with an Err.
@@ -72,21 +72,18 @@ impl Names {
         &self.regions
     }
 
-    /// What is known at a place in a region.
-    pub fn surroundings(
-        &self,
-        revision: Revision,
-        region: RegionId,
-    ) -> Result<Surroundings<'_>, AllocError>
-        ensures { IfOk result (λ place. place ≡ record { revision = revision; scopes = self.now.scopes; region = region }) }
+    /// What is known at a place.
+    pub fn surroundings(&self, at: &At<'_>) -> Result<Surroundings<'_>, AllocError>
+        ensures { IfOk result (λ place. place ≡ standpoint at.now self.now) }
     {
         if !self.whole || !self.counts.is_complete(&self.regions) {
             return Err(AllocError);
         }
         Ok(Surroundings::of(
-            revision,
+            at.revision,
             &self.regions,
-            region,
+            at.region,
+            at.ports,
             self.counts.types.as_slice(),
         ))
     }
@@ -317,6 +314,13 @@ impl Names {
         self.regions.repeat_uses(region, from)?;
         self.whole = true;
         Ok(())
+    }
+
+    /// The headers of bodies that stand for those of declarations, in the order in which they were read.
+    pub fn taken(&self) -> &[Taken]
+        ensures { result.now ≡ self.now.taken }
+    {
+        self.taken.as_slice()
     }
 
     /// The header of a body stands for another.

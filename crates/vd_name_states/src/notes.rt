@@ -13,11 +13,12 @@ pub struct Formal {
     pub is_needed: bool,
 }
 
-/// Where the header of a function begins, or a whole package with generics: the first of its declarations and of its regions, and the
-/// first region behind it. The declarations end where that of the function or package itself stands.
+/// What the header of a function declares, or a package with generics: the first of its declarations and of its regions, and the
+/// first ones behind these.
 #[derive(Clone, Copy)]
 pub struct Span {
     pub first: u32,
+    pub end: u32,
     pub first_region: u32,
     pub end_region: u32,
 }

@@ -1,10 +1,11 @@
 -- What units declare at their ends, as it is seen with the design behind their parts.
-use Rattle.std.specs.Prelude.{[]}
+use Rattle.std.specs.Prelude.{ℕ, []}
 use Rattle.vd_declarations.specs.declared.classes.Class.TheVariants as class
 use Rattle.vd_declarations.specs.declared.declarations.Declaration.{Declaration}
 use Rattle.vd_name_states.specs.declared.sorts.Sort.TheVariants as sort
-use Rattle.vd_name_states.specs.Designs.{Design, Outcome}
+use Rattle.vd_name_states.specs.Designs.{At, Design, Outcome}
 use Rattle.vd_name_states.specs.Members.{declared_in}
+use Rattle.vd_name_states.specs.Noting.{with_span, span_to}
 use Rattle.vd_naming.specs.Endings.{Ended, declares, closed}
 use Rattle.vd_naming.specs.Units.{unit_of, entering_unit, package_with}
 use Rattle.vd_name_outcomes.specs.declared.ended.Ended as code
@@ -20,6 +21,10 @@ entity_declared x d = entity_with (seen_ended [] d x)
 
 abbrev pub package_declared : code.Ended → Design → Declaration
 package_declared x d = package_with (declared_in x.inside.now.region sort.Generic d) (seen_ended [] d x)
+
+-- a package's span
+abbrev pub with_own_span : ℕ → At → Design → Design
+with_own_span k inside d = with_span k (span_to inside.header k inside.region d) d
 
 -- a context whose name is an identifier
 abbrev pub single_context_end : Ended → Outcome

@@ -1,55 +1,13 @@
 //! What is noted of bodies that have ended.
 
 ghost use Rattle.std.specs.Prelude.{◌≡◌, IfOk, OnOk};
-ghost use Rattle.vd_name_states.specs.Noting.{with_body, with_bodies, with_span};
 ghost use Rattle.vd_naming.specs.Units.{instances_in as instances_of, with_instances_at_end};
 
 use std::alloc::{AllocError, Global};
 use vd_declarations::{DeclId, RegionId};
+use vd_name_entering::note_bodies;
 use vd_name_lookup::Units;
-use vd_name_states::{Names, Note, Sort, Span};
-
-/// Notes that the body of a function or package has ended.
-pub(crate) fn note_body(names: &mut Names, id: DeclId) -> Result<(), AllocError>
-    ensures { OnOk result (names.new ≡ with_body id names.old) }
-{
-    let note = Note {
-        has_body: true,
-        ..names.note(id)
-    };
-    names.put(id, note)
-}
-
-/// The same of several.
-pub fn note_bodies(names: &mut Names, ids: &[DeclId]) -> Result<(), AllocError>
-    ensures { OnOk result (names.new ≡ with_bodies ids.now names.old) }
-{
-    for id in ids {
-        note_body(names, *id)?;
-    }
-    Ok(())
-}
-
-/// Notes what a package with generics declares, from its first declaration and region on.
-pub(crate) fn note_span(
-    names: &mut Names,
-    owner: DeclId,
-    first: u32,
-    first_region: RegionId,
-) -> Result<(), AllocError>
-    ensures { OnOk result (names.new ≡ with_span owner first first_region names.old) }
-{
-    let span = Span {
-        first,
-        first_region: first_region.number(),
-        end_region: names.next_region()?,
-    };
-    let note = Note {
-        span: Some(span),
-        ..names.note(owner)
-    };
-    names.put(owner, note)
-}
+use vd_name_states::{Names, Sort};
 
 /// The functions that are instances among those that a region declares.
 pub fn instances_in(

@@ -2,18 +2,19 @@
 
 ghost use Rattle.std.specs.Prelude.{◌≡◌, ◌≤◌, IfOk, length};
 ghost use Rattle.vd_forest.specs.Store.{Extends};
-ghost use Rattle.vd_naming.specs.Units.{unit_ends as ending_of_unit, entity_ends as ending_of_entity, architecture_ends as ending_of_architecture, is_single as is_alone, context_ends as ending_of_context};
+ghost use Rattle.vd_naming.specs.Units.{unit_ends as ending_of_unit, entity_ends as ending_of_entity, architecture_ends as ending_of_architecture, context_ends as ending_of_context};
 ghost use Rattle.vd_name_outcomes.specs.Made.{IsMade};
 ghost use Rattle.vd_name_outcomes.specs.Ended.{seen_ended};
 ghost use Rattle.vd_name_units.specs.Declared.{entity_declared, single_context_end};
 
-use crate::entering::{close, enter_architecture, enter_unit, named_at, unit_at};
+use crate::entering::{enter_architecture, enter_unit, unit_at};
 use std::alloc::{AllocError, Global};
 use vd_declarations::{Class, DeclId, Declaration, Declarations};
 use vd_forest::{Cursor, Store};
 use vd_forms::Form;
+use vd_name_entering::{close, named_at};
 use vd_name_lookup::{region_inside, unit_named};
-use vd_name_outcomes::{Ended, Made, finished};
+use vd_name_outcomes::{Ended, Made, finished, is_single};
 use vd_name_states::{Names, Sort};
 use vd_resolved::Resolved;
 
@@ -80,20 +81,10 @@ pub fn architecture_ends(
     let entity = ended.node.parts.next().text();
     let entity = unit_named(alloc, names, Sort::Entity, entity)?;
     let inside = region_inside(names, entity);
-    let declared = named_at(alloc, Class::Architecture, &ended.inner.at)?;
+    let declared = named_at(alloc, Class::Architecture, &ended.inner.at, None)?;
     let first = enter_architecture(names, inside, declared)?;
     let made = finished(ended, Some(id), None, ended.inner.tree, first, out)?;
     Ok(made)
-}
-
-/// Whether there is one tree.
-fn is_single(trees: &Cursor<'_, Form>) -> bool
-    ensures { result ≡ is_alone trees.now }
-{
-    match trees.open() {
-        None => false,
-        Some(first) => first.next.open().is_none(),
-    }
 }
 
 /// A context declaration ends whose name is an identifier.

@@ -1,8 +1,7 @@
 //! Units as they are entered at their ends.
 
-ghost use Rattle.std.specs.Prelude.{◌≡◌, Some, None, IfOk, OnOk};
+ghost use Rattle.std.specs.Prelude.{◌≡◌, Some, None, IfOk};
 ghost use Rattle.vd_name_states.specs.Entering.{declaration_of as declaration_with};
-ghost use Rattle.vd_naming.specs.Endings.{closed};
 ghost use Rattle.vd_naming.specs.Units.{entering_unit_in, entering_unit, entering_architecture, region_of_architectures};
 ghost use Rattle.vd_name_entering.specs.Entered.{IsEntered};
 
@@ -12,29 +11,10 @@ use vd_bytes::Refused;
 use vd_declarations::{Class, Declaration, RegionId};
 use vd_given::numbers::REGION_OF_WORK;
 use vd_least::lesser;
-use vd_name_entering::{declaration_of, enter_as};
+use vd_name_entering::{enter_as, named_at};
 use vd_name_states::{At, Names};
 
-/// The end of a region is reached. Where there is no such region, it ends as where memory does.
-pub(crate) fn close(names: &mut Names, region: RegionId) -> Result<(), AllocError>
-    ensures { OnOk result (names.new ≡ closed region names.old) }
-{
-    if !names.regions().is_region(region) {
-        return Err(AllocError);
-    }
-    names.close(region);
-    Ok(())
-}
-
-/// A declaration with the name that was read last at a place.
-pub(crate) fn named_at(alloc: Global, class: Class, at: &At<'_>) -> Result<Declaration, AllocError>
-    ensures { IfOk result (λ made. made ≡ declaration_with class (record { name = at.now.word; place = at.now.word_place }) None) }
-{
-    let name = at.word.name(alloc)?;
-    declaration_of(alloc, class, name.as_slice(), at.word_place, None)
-}
-
-/// The same with a region inside.
+/// A declaration with the name that was read last at a place, and with a region inside.
 pub(crate) fn unit_at(
     alloc: Global,
     class: Class,
@@ -44,7 +24,7 @@ pub(crate) fn unit_at(
     ensures { IfOk result (λ made. made
         ≡ record (declaration_with class (record { name = at.now.word; place = at.now.word_place }) None) { inside = Some inside }) }
 {
-    let mut declared = named_at(alloc, class, at)?;
+    let mut declared = named_at(alloc, class, at, None)?;
     declared.inside = Some(inside);
     Ok(declared)
 }
@@ -63,10 +43,7 @@ fn enter_unit_in(
 }
 
 /// Enters a unit in `work`.
-pub(crate) fn enter_unit(
-    names: &mut Names,
-    declared: Declaration,
-) -> Result<Option<Refused>, AllocError>
+pub fn enter_unit(names: &mut Names, declared: Declaration) -> Result<Option<Refused>, AllocError>
     ensures { IfOk result (λ first. IsEntered names.new first (entering_unit declared names.old)) }
 {
     enter_unit_in(names, RegionId::of(REGION_OF_WORK), declared)

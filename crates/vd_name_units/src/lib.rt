@@ -8,7 +8,8 @@ pub mod entering;
 pub mod packages;
 pub mod words;
 
-pub use bodies::{instances_in, note_bodies};
+pub use bodies::instances_in;
 pub use endings::{architecture_ends, context_ends, entity_ends, unit_ends};
+pub use entering::enter_unit;
 pub use packages::{package_body_ends, package_ends};
 pub use words::{is_library_word, refused_word};

@@ -2,18 +2,18 @@
 
 ghost use Rattle.std.specs.Prelude.{◌≡◌, ◌≤◌, Some, IfOk, OnOk, length};
 ghost use Rattle.vd_forest.specs.Store.{at, Holds, Extends};
-ghost use Rattle.vd_name_states.specs.Noting.{with_span};
 ghost use Rattle.vd_naming.specs.Units.{with_name as named_with, package_class as class_with, from_number as numbers_from, declared_besides as besides, with_instances_at_end, body_of_package, package_ends as ending_of_package, package_body_ends as ending_of_body};
 ghost use Rattle.vd_name_outcomes.specs.Made.{IsMade};
 ghost use Rattle.vd_name_outcomes.specs.Ended.{seen_ended};
-ghost use Rattle.vd_name_units.specs.Declared.{package_declared};
+ghost use Rattle.vd_name_units.specs.Declared.{package_declared, with_own_span};
 
-use crate::bodies::{note_body, note_instances_at_end, note_span};
-use crate::entering::{close, enter_unit, unit_at};
+use crate::bodies::note_instances_at_end;
+use crate::entering::{enter_unit, unit_at};
 use std::alloc::{AllocError, Global};
 use vd_bytes::Text;
 use vd_declarations::{Class, DeclId, Declaration, Declarations, RegionId};
 use vd_forest::Store;
+use vd_name_entering::{close, note_body, note_span, span_to};
 use vd_name_lookup::{Units, unit_named};
 use vd_name_outcomes::{Ended, Made, finished};
 use vd_name_states::{Names, Sort};
@@ -114,14 +114,15 @@ fn note_package(
     ended: &Ended<'_, '_>,
     id: DeclId,
 ) -> Result<(), AllocError>
-    ensures { OnOk result (names.new ≡ with_span id ended.now.inside.now.header ended.now.inside.now.region
+    ensures { OnOk result (names.new ≡ with_own_span id ended.now.inside.now
         (with_instances_at_end units.now ended.now.inner.now.at.word ended.now.inside.now.region names.old)) }
 {
     let inside = ended.inside;
     let at = &ended.inner.at;
     let word = at.word.name(alloc)?;
     note_instances_at_end(alloc, names, units, word.as_slice(), inside.region)?;
-    note_span(names, id, inside.header, inside.region)
+    let span = span_to(names, inside.header, id.number(), inside.region)?;
+    note_span(names, id, span)
 }
 
 /// A package declaration ends.

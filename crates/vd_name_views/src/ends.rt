@@ -76,7 +76,7 @@ fn type_viewed(
     ensures { IfOk result (λ mark. mark ≡ type_of_view (seen_ended out.now names.now ended.now)) }
 {
     let outer = ended.outer;
-    let place = names.surroundings(outer.revision, outer.region)?;
+    let place = names.surroundings(outer)?;
     match declaration_of_tree(&out.cursor(ended.inner.tree).next()) {
         None => Ok(None),
         Some(id) => Ok(place.type_meant(id)),

@@ -24,7 +24,6 @@ use Rattle.vd_naming.specs.Actuals.{Known, actual_of, type_in}
 -- The span of what is instantiated, its declaration, and the region round the instance; the first number and region of the copies; what is known of
 -- the generics, and the actuals of types and functions.
 pub record Copying : Type 0 where
-  pub owner : ℕ
   pub span : Span
   pub generic : Declaration
   pub outer : ℕ
@@ -33,14 +32,9 @@ pub record Copying : Type 0 where
   pub known : Known
   pub actuals : List Actual
 
--- it ends where the package or function stands itself; where nothing is known of its span, nothing is copied
-abbrev pub end_of_span : ℕ → Option Span → ℕ
-end_of_span n None = 0
-end_of_span n (Some span) = n
-
+-- where nothing is known of a span, nothing is copied
 abbrev pub copying : ℕ → ℕ → Sight → List Actual → Design → Copying
 copying n outer s actuals d = record {
-  owner = end_of_span n (note_at d n).span;
   span = span_at d n;
   generic = declaration_at d.scopes n;
   outer = outer;
@@ -53,14 +47,14 @@ copying n outer s actuals d = record {
 -- ---- numbers and regions
 
 abbrev pub number_of_copy : Copying → ℕ → ℕ
-number_of_copy c n = as_in c.span.first c.owner c.first n
+number_of_copy c n = as_in c.span.first c.span.end c.first n
 
 abbrev pub region_of_copy : Copying → ℕ → ℕ
 region_of_copy c r = as_in c.span.first_region c.span.end_region c.first_region r
 
 -- the number behind the copies, and the region behind theirs, in which nothing looks
 abbrev pub number_behind : Copying → ℕ
-number_behind c = c.first + (c.owner - c.span.first)
+number_behind c = c.first + (c.span.end - c.span.first)
 
 abbrev pub region_behind : Copying → ℕ
 region_behind c = c.first_region + (c.span.end_region - c.span.first_region)
@@ -149,6 +143,7 @@ unseen_region c = record { outer = c.outer; continues = None; closed = false; us
 abbrev pub span_of_copy : Copying → Span → Span
 span_of_copy c x = record {
   first = number_of_copy c x.first;
+  end = c.first + (x.end - c.span.first);
   first_region = region_of_copy c x.first_region;
   end_region = c.first_region + (x.end_region - c.span.first_region);
 }
@@ -179,9 +174,9 @@ some_of first end xs = take (end - first) (drop first xs)
 
 abbrev pub scopes_with_copies : Copying → Scopes → Scopes
 scopes_with_copies c s = record {
-  entered = s.entered ++ entries_of_copies c c.span.first (some_of c.span.first c.owner s.entered);
+  entered = s.entered ++ entries_of_copies c c.span.first (some_of c.span.first c.span.end s.entered);
   regions = s.regions ++ (map (copy_of_region c) (some_of c.span.first_region c.span.end_region s.regions) ++ unseen_region c ∷ []);
 }
 
 abbrev pub with_copies : Copying → Design → Design
-with_copies c d = with_noted_copies c c.span.first (c.owner - c.span.first) (with_scopes d (scopes_with_copies c d.scopes))
+with_copies c d = with_noted_copies c c.span.first (c.span.end - c.span.first) (with_scopes d (scopes_with_copies c d.scopes))

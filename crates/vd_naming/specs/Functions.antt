@@ -8,7 +8,8 @@ use Rattle.std.specs.Str.{bytes_eq}
 use Rattle.vd_declarations.specs.declared.classes.Class.{Class}
 use Rattle.vd_declarations.specs.declared.classes.Class.TheVariants as class
 use Rattle.vd_declarations.specs.declared.declarations.Declaration.{Declaration}
-use Rattle.vd_forest.specs.Forest.{Forest, nothing, more}
+use Rattle.vd_forest.specs.Forest.{Forest, nothing, more, next_of, no_place}
+use Rattle.vd_forms.specs.declared.form.Form.{Form}
 use Rattle.vd_forms.specs.declared.form.Form.TheVariants as form
 use Rattle.vd_regions.specs.Homographs.{same_type, same_types, parameter_types}
 use Rattle.vd_regions.specs.Scopes.{region_at, entered_at, declaration_at, continued}
@@ -16,9 +17,10 @@ use Rattle.vd_resolved.specs.declared.node.Resolved.{Resolved}
 use Rattle.vd_name_states.specs.declared.sorts.Sort.TheVariants as sort
 use Rattle.vd_name_states.specs.Designs.{At, Design, Outcome}
 use Rattle.vd_name_states.specs.Entering.{Word, declaration_of, Entering, entering}
-use Rattle.vd_name_states.specs.Members.{next_number, declared_in}
-use Rattle.vd_name_states.specs.Noting.{span_at, with_span, with_body, has_body, tied_to, with_formal}
-use Rattle.vd_name_states.specs.Refusals.{lesser}
+use Rattle.vd_name_states.specs.Members.{next_number, next_region, declared_in}
+use Rattle.vd_name_states.specs.Noting.{span_at, with_span, span_to, with_body, has_body, tied_to, with_formal}
+use Rattle.vd_name_states.specs.Words.{declared_name}
+use Rattle.vd_name_states.specs.declared.notes.Span.{Span}
 use Rattle.vd_name_states.specs.declared.notes.Taken.{Taken}
 use Rattle.vd_naming.specs.Endings.{Ended, word_of, declares, finished, with_operators, noted, form_at, is_form}
 
@@ -91,7 +93,8 @@ declaration_of_body at d body = first_in_regions at d body (round_of d at.region
 
 -- ---- the end of a header
 
--- where there is a declaration, the header stands for that of it; else the function is declared here. The body sees what its own header declares
+-- Where there is a declaration, the header stands for that of it. Else the function is declared at the end of its body, and inside the body its name means what
+-- it means round it. The body sees what its own header declares.
 abbrev pub taken_for : ℕ → At → Design → Taken
 taken_for k at d = record { first = at.header; end = next_number d; other = (span_at d k).first }
 
@@ -102,17 +105,11 @@ body_known k at d new o =
       design = record d { taken = d.taken ++ taken_for k at d ∷ [] };
     }
 
-abbrev pub body_entered : At → Design → Declaration → Outcome → Outcome
-body_entered at d new o =
-    let e = entering (round_of d at.region) new d in
-    record o {
-      at = record o.at { function = Some (next_number d); result = new.mark; header_end = next_number d };
-      design = with_span (next_number d) at.header at.region e.design;
-      first = lesser o.first e.first;
-    }
+abbrev pub body_begun : Design → Declaration → Outcome → Outcome
+body_begun d new o = record o { at = record o.at { function = None; result = new.mark; header_end = next_number d; header_regions = next_region d } }
 
 abbrev pub header_ends_as : Option ℕ → At → Design → Declaration → Outcome → Outcome
-header_ends_as None at d new o = body_entered at d new o
+header_ends_as None at d new o = body_begun d new o
 header_ends_as (Some k) at d new o = body_known k at d new o
 
 -- the type of the result is at hand
@@ -125,8 +122,9 @@ header_ends o =
 
 abbrev pub function_ends : Ended → Outcome
 function_ends x =
+    let k = next_number x.inner.design in
     let o = declares x x.inner.tree (entering x.outer.region (written_function (word_of x) x.inner.at.mark x.inside.region x.inner.design) x.inner.design) in
-    record o { design = with_span (next_number x.inner.design) x.inside.header x.inside.region o.design }
+    record o { design = with_span k (span_to x.inside.header k x.inside.region o.design) o.design }
 
 abbrev pub is_uninstantiated_function : Class → Bool
 is_uninstantiated_function class.UninstantiatedFunction = true
@@ -142,15 +140,32 @@ abbrev pub names_round : Ended → ℕ → Forest Resolved → Bool
 names_round x k nothing = false
 names_round x k (more node text place parts next) = stands_round x k node.declaration || (names_round x k parts || names_round x k next)
 
-abbrev pub is_tied : Ended → ℕ → Bool
-is_tied x k = is_uninstantiated_function (declaration_at x.inner.design.scopes k).class && names_round x k x.inner.tree
+abbrev pub is_tied : Ended → Class → ℕ → Bool
+is_tied x c k = is_uninstantiated_function c && names_round x k x.inner.tree
 
-abbrev pub with_tied : Ended → ℕ → Design → Design
-with_tied x k d = if is_tied x k then tied_to k x.outer.unit d else d
+abbrev pub with_tied : Ended → Class → ℕ → Design → Design
+with_tied x c k d = if is_tied x c k then tied_to k x.outer.unit d else d
+
+-- a function without declaration: its designator is the second part of its body
+abbrev pub designator : Forest Form → Word
+designator nothing = record { name = []; place = no_place }
+designator (more f text place parts next) = record { name = declared_name f text; place = place }
+
+abbrev pub function_of_body : Ended → Declaration
+function_of_body x = written_function (designator (next_of x.parts)) x.inner.at.result x.inside.region x.inner.design
+
+abbrev pub header_span : Ended → Span
+header_span x =
+    record { first = x.inside.header; end = x.inner.at.header_end; first_region = x.inside.region; end_region = x.inner.at.header_regions }
+
+abbrev pub entering_body : Ended → ℕ → Declaration → Entering
+entering_body x k new = let e = entering x.outer.region new x.inner.design in
+    record e { design = with_tied x new.class k (with_body k (with_span k (header_span x) e.design)) }
 
 abbrev pub body_of : Option ℕ → Ended → Outcome
-body_of None x = finished x None None x.inner.tree x.inner.design None
-body_of (Some k) x = finished x (Some k) None x.inner.tree (with_tied x k (with_body k x.inner.design)) None
+body_of None x = declares x x.inner.tree (entering_body x (next_number x.inner.design) (function_of_body x))
+body_of (Some k) x =
+    finished x (Some k) None x.inner.tree (with_tied x (declaration_at x.inner.design.scopes k).class k (with_body k x.inner.design)) None
 
 abbrev pub body_ends : Ended → Outcome
 body_ends x = body_of x.inner.at.function x

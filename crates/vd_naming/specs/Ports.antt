@@ -12,27 +12,20 @@ use Rattle.vd_forms.specs.declared.form.Form.TheVariants as form
 use Rattle.vd_forms.specs.Forms.{is_among, expressions, same_form}
 use Rattle.vd_trees.specs.declared.revision.Revision.{Revision}
 use Rattle.vd_trees.specs.declared.revision.Revision.TheVariants.{V1993}
-use Rattle.vd_readings.specs.Readings.{Rules}
 use Rattle.vd_regions.specs.Scopes.{declaration_at}
 use Rattle.vd_resolved.specs.declared.node.Resolved.{Resolved}
-use Rattle.vd_refusals.specs.Refusals.{first_refusal}
-use Rattle.vd_states.specs.declared.states.Want.TheVariants as want
-use Rattle.vd_given.specs.declared.numbers.TheConstants.{BOOLEAN}
-use Rattle.vd_overloads.specs.Environment.{scene_at}
-use Rattle.vd_overloads.specs.Interpretations.{Scene, alone, first_place, interpretations, refusal}
+use Rattle.vd_overloads.specs.Interpretations.{first_place}
 use Rattle.vd_overloads.specs.declared.wanted.Wanted.TheVariants as wanted
 use Rattle.vd_sights.specs.Lists.{simple_name}
-use Rattle.vd_sights.specs.Sights.{Sight}
-use Rattle.vd_ways.specs.Ways.{ways, ends}
+use Rattle.vd_sights.specs.Sights.{port_in}
 use Rattle.vd_name_states.specs.Noting.{formal_at}
 use Rattle.vd_name_states.specs.declared.sorts.Sort.TheVariants as sort
-use Rattle.vd_name_states.specs.Designs.{At, Design, Outcome, standpoint, sight, gives}
+use Rattle.vd_name_states.specs.Designs.{At, Design, Outcome, gives}
 use Rattle.vd_name_states.specs.Refusals.{lesser, broken, broken_if}
-use Rattle.vd_naming.specs.Pieces.{refused_pieces}
-use Rattle.vd_naming.specs.Expressions.{resolved, unresolved, only_reading, refused_unless_one, mark_of, read_as, refused_names}
+use Rattle.vd_naming.specs.Expressions.{resolved, unresolved, mark_of, read_as, refused_names}
 use Rattle.vd_naming.specs.Selected.{Breaks}
 use Rattle.vd_naming.specs.Paths.{named_as, refused_path, is_entity, is_some}
-use Rattle.vd_naming.specs.Units.{main_of, found_in, found_inside, region_inside, region_of_architectures}
+use Rattle.vd_naming.specs.Units.{main_of, found_in, region_inside, region_of_architectures}
 
 -- ---- the entity and its architecture
 
@@ -93,7 +86,7 @@ pub data Front : Type 0 where
 -- the ports of an entity stand in its region
 abbrev pub port_named : Design → ℕ → Option (List ℕ) → Option ℕ
 port_named d entity None = None
-port_named d entity (Some name) = found_inside (region_inside d (Some entity)) sort.Port name d
+port_named d entity (Some name) = port_in d.scopes (region_inside d (Some entity)) name
 
 abbrev pub name_alone : Forest Form → Option (List ℕ)
 name_alone nothing = None
@@ -119,25 +112,11 @@ front d entity (more form.Name text place parts nothing) = front_of_name d entit
 front d entity _ = OtherFront
 
 -- A conversion of a port is an expression in which the ports are looked up first.
-abbrev pub port_or_visible : Design → ℕ → Sight → List ℕ → List ℕ
-port_or_visible d entity s name = elim (port_named d entity (Some name)) [ None ↦ s.visible name | Some k ↦ k ∷ [] ]
-
-abbrev pub sight_of_ports : Design → ℕ → Sight → Sight
-sight_of_ports d entity s = record s { visible = port_or_visible d entity s }
-
-abbrev pub rules_of : Sight → Rules
-rules_of s = record { ways = ways s; ends = ends s }
-
-abbrev pub converted_refusal : Sight → Design → ℕ → Forest Form → List (Forest Resolved) → Scene → Option Refused
-converted_refusal s d region tree all scene =
-    lesser (refused_pieces s d region tree)
-    (refused_unless_one (Some (refusal (first_refusal s (want.Value BOOLEAN) tree) (scene.unknown tree) (first_place tree) all)) all)
+abbrev pub among_ports : ℕ → At → Design → At
+among_ports entity at d = record at { ports = region_inside d (Some entity) }
 
 abbrev pub converted : ℕ → At → Design → Forest Form → Outcome
-converted entity at d tree =
-    let s = sight_of_ports d entity (sight at d) in
-    let all = interpretations (rules_of s) (scene_at (standpoint at d)) wanted.Free (alone tree) in
-    gives at d (only_reading tree all) (converted_refusal s d at.region tree all (scene_at (standpoint at d)))
+converted entity at d tree = record (read_as (among_ports entity at d) d wanted.Free tree) { at = at }
 
 -- ---- associations
 

@@ -22,7 +22,7 @@ use Rattle.vd_name_states.specs.declared.sorts.Sort.TheVariants as sort
 use Rattle.vd_name_states.specs.Designs.{At, Design, Outcome, sight, gives, with_scopes}
 use Rattle.vd_name_states.specs.Entering.{declaration_of, Entering, entering, entering_as, then_entering, nothing_entering}
 use Rattle.vd_name_states.specs.Members.{next_number, declared_in}
-use Rattle.vd_name_states.specs.Noting.{with_span, with_body, with_bodies, is_instance}
+use Rattle.vd_name_states.specs.Noting.{with_span, span_to, with_body, with_bodies, is_instance}
 use Rattle.vd_name_states.specs.Refusals.{lesser, broken, broken_if}
 use Rattle.vd_naming.specs.Expressions.{resolved}
 use Rattle.vd_naming.specs.Selected.{Meant, Breaks}
@@ -181,11 +181,15 @@ instances_in region d = filter (is_instance d) (declared_in region sort.PlainFun
 abbrev pub with_instances_at_end : Forest Form → List ℕ → ℕ → Design → Design
 with_instances_at_end whole name region d = if has_body_in name whole then d else with_bodies (instances_in region d) d
 
+abbrev pub with_package_span : Ended → Design → Design
+with_package_span x d = let k = next_number x.inner.design in
+    with_span k (span_to x.inside.header k x.inside.region d) d
+
 abbrev pub package_ends : Forest Form → Ended → Outcome
 package_ends whole x =
     let o = declares x (with_name (next_number x.inner.design) x.inner.tree) (entering_unit (package_with (declared_in x.inside.region sort.Generic x.inner.design) x) (closed x.inside.region x.inner.design)) in
     record o {
-      design = with_span (next_number x.inner.design) x.inside.header x.inside.region (with_instances_at_end whole x.inner.at.word x.inside.region o.design);
+      design = with_package_span x (with_instances_at_end whole x.inner.at.word x.inside.region o.design);
     }
 
 abbrev pub body_of_package : Option ℕ → Ended → Outcome

@@ -93,7 +93,7 @@ fn resolved(
     let tree = expression_in(alloc, units, frame)?;
     let types = all_types(alloc, &world.regions)?;
     let env = Env {
-        surroundings: Surroundings::of(world.revision, &world.regions, world.here, &types),
+        surroundings: Surroundings::of(world.revision, &world.regions, world.here, None, &types),
     };
     let mut out = Store::new(alloc);
     match resolve_expr(alloc, &env, &tree, wanted, &mut out) {

@@ -46,6 +46,7 @@ broken_by (seen.Unit k) n = Some 307
 broken_by (seen.Mark t) n = refuses_mark n
 broken_by (seen.Valued t signal) n = refuses_value n
 broken_by seen.Ranged n = refuses_others n
+broken_by seen.Awaiting n = refuses_others n
 broken_by seen.Unknown n = refuses_others n
 broken_by (seen.Broken rule) n = Some rule
 
@@ -114,9 +115,10 @@ refused_node at s form text place parts = refused_expression (kind_of form) (nee
 
 -- ---- the places inside a node and behind it
 
--- an index or an argument: only behind a mark it must be a value
+-- an index or an argument: only behind a mark, and behind an attribute of a type, it must be a value
 abbrev pub argument_need : Seen → Need
 argument_need (seen.Mark t) = need.Value
+argument_need seen.Awaiting = need.Value
 argument_need _ = need.Choice
 
 abbrev pub inside_brackets : Spot → Spot

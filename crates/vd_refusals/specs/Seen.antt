@@ -76,6 +76,7 @@ selected_seen (seen.Unit k) s name = declared_seen s (class_of s k) (s.selected 
 selected_seen (seen.Mark t) s name = seen.Broken 307
 selected_seen (seen.Valued t signal) s name = element_seen s (elements_named s t name) signal
 selected_seen seen.Ranged s name = seen.Unknown
+selected_seen seen.Awaiting s name = seen.Unknown
 selected_seen seen.Unknown s name = seen.Unknown
 selected_seen (seen.Broken rule) s name = seen.Broken rule
 
@@ -140,12 +141,22 @@ bracket_seen (seen.Unit k) s parts = seen.Broken 307
 bracket_seen (seen.Mark t) s parts = seen.Valued t false
 bracket_seen (seen.Valued t signal) s parts = part_seen (is_range_at s parts) (element_of (class_of s t)) t signal
 bracket_seen seen.Ranged s parts = seen.Unknown
+bracket_seen seen.Awaiting s parts = seen.Unknown
 bracket_seen seen.Unknown s parts = seen.Unknown
 bracket_seen (seen.Broken rule) s parts = seen.Broken rule
 
-abbrev pub attribute_seen : Seen → Bool → Seen
-attribute_seen (seen.Broken rule) range = seen.Broken rule
-attribute_seen p range = if range then seen.Ranged else seen.Unknown
+-- what an attribute gives: a range, a value, or a function whose argument stands behind it
+abbrev pub attribute_gives : Attribute → Seen
+attribute_gives attribute.ReverseRange = seen.Ranged
+attribute_gives attribute.Position = seen.Awaiting
+attribute_gives attribute.ValueAt = seen.Awaiting
+attribute_gives attribute.Neighbour = seen.Awaiting
+attribute_gives attribute.Image = seen.Awaiting
+attribute_gives _ = seen.Unknown
+
+abbrev pub attribute_seen : Seen → Attribute → Seen
+attribute_seen (seen.Broken rule) a = seen.Broken rule
+attribute_seen p a = attribute_gives a
 
 -- a qualified expression begins with a mark
 abbrev pub qualification_seen : Seen → Seen
@@ -156,8 +167,8 @@ qualification_seen _ = seen.Broken 307
 abbrev pub piece_seen : Kind → Sight → Seen → Forest Form → Seen
 piece_seen kind.Selection s p parts = selection_seen p s (selection_name parts)
 piece_seen kind.Arguments s p parts = bracket_seen p s parts
-piece_seen kind.Attribute s p parts = attribute_seen p (is_range_piece kind.Attribute parts)
-piece_seen kind.RangeAttribute s p parts = attribute_seen p true
+piece_seen kind.Attribute s p parts = attribute_seen p (attribute_named (text_of parts))
+piece_seen kind.RangeAttribute s p parts = attribute_seen p attribute.ReverseRange
 piece_seen kind.Qualification s p parts = qualification_seen p
 piece_seen _ s p parts = p
 
@@ -200,5 +211,6 @@ can_have (seen.Unit k) s a = false
 can_have (seen.Mark t) s a = if is_scalar (class_of s t) then scalar_has a t else array_has a (element_of (class_of s t))
 can_have (seen.Valued t signal) s a = value_has a s t signal
 can_have seen.Ranged s a = false
+can_have seen.Awaiting s a = is_some_attribute a
 can_have seen.Unknown s a = is_some_attribute a
 can_have (seen.Broken rule) s a = true

@@ -24,7 +24,7 @@ fn argument_need(seen: &Seen) -> Need
     ensures { result ≡ need_of_argument seen.now }
 {
     match seen {
-        Seen::Mark(_) => Need::Value,
+        Seen::Mark(_) | Seen::Awaiting => Need::Value,
         _ => Need::Choice,
     }
 }

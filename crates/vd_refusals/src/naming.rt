@@ -59,7 +59,7 @@ fn broken_by(seen: &Seen, need: Need) -> Option<u16>
         Seen::Unit(_) => Some(307),
         Seen::Mark(_) => refuses_mark(need),
         Seen::Valued { .. } => refuses_value(need),
-        Seen::Ranged | Seen::Unknown => refuses_others(need),
+        Seen::Ranged | Seen::Awaiting | Seen::Unknown => refuses_others(need),
         Seen::Broken(rule) => Some(*rule),
     }
 }
@@ -181,7 +181,7 @@ fn can_have(at: &Surroundings<'_>, seen: &Seen, attribute: Attribute) -> bool
             }
         }
         Seen::Valued { mark, signal } => value_has(at, attribute, *mark, *signal),
-        Seen::Unknown => is_some_attribute(attribute),
+        Seen::Awaiting | Seen::Unknown => is_some_attribute(attribute),
         Seen::Broken(_) => true,
     }
 }

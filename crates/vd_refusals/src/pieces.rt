@@ -4,7 +4,7 @@ ghost use Rattle.std.specs.Prelude.{◌≡◌, ◌||◌, IfOk, option_map};
 ghost use Rattle.vd_sights.specs.Kinds.{kind_of as kind_at, role_of as role_at};
 ghost use Rattle.vd_sights.specs.Sights.{sight_from, class_of, mark_of};
 ghost use Rattle.vd_ways.specs.Ways.{selection_name as name_selected};
-ghost use Rattle.vd_refusals.specs.Seen.{value_seen as seen_value, mark_seen as seen_mark, other_seen as seen_other, role_seen, first_seen, head_seen, element_seen, missing_in as absent_in, declared_seen, selected_seen, selection_seen, is_reverse as reverse, is_range_piece as range_piece, has_range_piece as range_pieces, path_step, path_from, path_seen, is_mark_seen as seen_as_mark, is_range_name, is_range_form, is_range_at, part_seen as seen_part, bracket_seen, attribute_seen as seen_attribute, qualification_seen as seen_qualification, piece_seen, pieces_seen, name_seen};
+ghost use Rattle.vd_refusals.specs.Seen.{value_seen as seen_value, mark_seen as seen_mark, other_seen as seen_other, role_seen, first_seen, head_seen, element_seen, missing_in as absent_in, declared_seen, selected_seen, selection_seen, is_reverse as reverse, is_range_piece as range_piece, has_range_piece as range_pieces, path_step, path_from, path_seen, is_mark_seen as seen_as_mark, is_range_name, is_range_form, is_range_at, part_seen as seen_part, bracket_seen, attribute_gives as given_by, attribute_seen as seen_attribute, qualification_seen as seen_qualification, piece_seen, pieces_seen, name_seen};
 
 use crate::seen::Seen;
 use std::alloc::{AllocError, Global};
@@ -151,7 +151,7 @@ fn selected_seen(
             let elements = at.elements_named(alloc, *mark, name)?;
             Ok(element_seen(at, &elements, *signal))
         }
-        Seen::Ranged | Seen::Unknown => Ok(Seen::Unknown),
+        Seen::Ranged | Seen::Awaiting | Seen::Unknown => Ok(Seen::Unknown),
         Seen::Broken(rule) => Ok(Seen::Broken(*rule)),
     }
 }
@@ -299,19 +299,31 @@ fn bracket_seen(
             let element = element_of(at.class_of_type(*mark));
             Ok(part_seen(range, element, *mark, *signal))
         }
-        Seen::Ranged | Seen::Unknown => Ok(Seen::Unknown),
+        Seen::Ranged | Seen::Awaiting | Seen::Unknown => Ok(Seen::Unknown),
         Seen::Broken(rule) => Ok(Seen::Broken(*rule)),
     }
 }
 
-/// What an attribute makes of a name.
-fn attribute_seen(prefix: &Seen, range: bool) -> Seen
-    ensures { result ≡ seen_attribute prefix.now range }
+/// What an attribute gives.
+fn attribute_gives(attribute: Attribute) -> Seen
+    ensures { result ≡ given_by attribute }
 {
-    if let Seen::Broken(rule) = prefix {
-        return Seen::Broken(*rule);
+    match attribute {
+        Attribute::ReverseRange => Seen::Ranged,
+        Attribute::Position | Attribute::ValueAt | Attribute::Neighbour | Attribute::Image =>
+            Seen::Awaiting,
+        _ => Seen::Unknown,
     }
-    if range { Seen::Ranged } else { Seen::Unknown }
+}
+
+/// What an attribute makes of a name.
+fn attribute_seen(prefix: &Seen, attribute: Attribute) -> Seen
+    ensures { result ≡ seen_attribute prefix.now attribute }
+{
+    match prefix {
+        Seen::Broken(rule) => Seen::Broken(*rule),
+        _ => attribute_gives(attribute),
+    }
 }
 
 /// What a qualification makes of a name.
@@ -341,8 +353,8 @@ pub fn piece_seen(
     match kind {
         Kind::Selection => selection_seen(at, alloc, prefix, parts),
         Kind::Arguments => bracket_seen(at, alloc, prefix, parts),
-        Kind::Attribute => Ok(attribute_seen(prefix, is_range_piece(Kind::Attribute, parts))),
-        Kind::RangeAttribute => Ok(attribute_seen(prefix, true)),
+        Kind::Attribute => Ok(attribute_seen(prefix, attribute_named(parts.text()))),
+        Kind::RangeAttribute => Ok(attribute_seen(prefix, Attribute::ReverseRange)),
         Kind::Qualification => Ok(qualification_seen(prefix)),
         _ => Ok(*prefix),
     }

@@ -13,6 +13,8 @@ pub enum Seen {
     Valued { mark: TypeId, signal: bool },
     /// A range.
     Ranged,
+    /// An attribute of a type, behind which its argument stands.
+    Awaiting,
     /// What only types can tell: a function, a literal, what stands behind these, an attribute.
     Unknown,
     /// It breaks the rule.

@@ -3,3 +3,4 @@ pub mod TypeLemmas
 pub mod CharacterLemmas
 pub mod FilterLemmas
 pub mod TypeListLemmas
+pub mod PortLemmas

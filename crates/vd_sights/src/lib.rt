@@ -16,4 +16,4 @@ pub use attributes::Attribute;
 pub use brackets::Brackets;
 pub use kinds::Kind;
 pub use roles::Role;
-pub use surroundings::Surroundings;
+pub use surroundings::{Surroundings, port_in};

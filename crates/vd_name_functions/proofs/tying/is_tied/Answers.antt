@@ -8,6 +8,6 @@ use Rattle.vd_name_functions.proofs.tying.is_tied.Goals as goal
 pub returns : goal.returns
 returns c =
     let known : c.is_uninstantiated_function.result ≡ true = search rules in
-    tied_by_search (seen_ended c.args.out.now c.args.names.now c.args.ended.now) c.args.id c.in_ok-tied.tied c.outer.inside.region c.cursor-body.result
-    (sym (c.is_uninstantiated_function.ensures ∙ ap is_uninstantiated_function c.class_of.ensures) ∙ known)
+    tied_by_search (seen_ended c.args.out.now c.args.names.now c.args.ended.now) c.args.id c.in_ok-tied.tied c.args.class c.outer.inside.region c.cursor-body.result
+    (sym c.is_uninstantiated_function.ensures ∙ known)
     (ap (λ (a : At). a.region) c.outer.view_is) c.cursor-body.ensures c.in_ok-tied.ensures

@@ -8,6 +8,6 @@ pub loop-next-preserved : goal.loop-next-preserved
 loop-next-preserved c =
     let source = c.args.self.now in
     let entered = c.args.names.now.scopes.entered in
-    entry_copied (seen_copying source) c.loop-next.next source.owner (search rules) entered c.loop-next.copies.items c.push.new.self.items
-    (entries_of_copies (seen_copying source) source.span.first (some_of source.span.first source.owner entered))
+    entry_copied (seen_copying source) c.loop-next.next source.span.end (search rules) entered c.loop-next.copies.items c.push.new.self.items
+    (entries_of_copies (seen_copying source) source.span.first (some_of source.span.first source.span.end entered))
     (search rules) (search rules) c.loop-next.invariant

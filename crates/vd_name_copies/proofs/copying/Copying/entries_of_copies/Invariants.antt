@@ -5,8 +5,8 @@ use Rattle.vd_name_copies.proofs.copying.Copying.entries_of_copies.Given as goal
 
 abbrev pub invariant-loop-next : goal.invariant-loop-next
 invariant-loop-next l =
-    l.copies.items ++ entries_of_copies (seen_copying l.self) l.next (some_of l.next l.self.owner l.names.scopes.entered)
-    ≡ entries_of_copies (seen_copying l.self) l.self.span.first (some_of l.self.span.first l.self.owner l.names.scopes.entered)
+    l.copies.items ++ entries_of_copies (seen_copying l.self) l.next (some_of l.next l.self.span.end l.names.scopes.entered)
+    ≡ entries_of_copies (seen_copying l.self) l.self.span.first (some_of l.self.span.first l.self.span.end l.names.scopes.entered)
 
 abbrev pub decreases-loop-next : goal.decreases-loop-next
-decreases-loop-next l = l.self.owner - l.next
+decreases-loop-next l = l.self.span.end - l.next

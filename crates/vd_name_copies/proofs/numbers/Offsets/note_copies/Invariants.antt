@@ -4,8 +4,8 @@ use Rattle.vd_name_copies.proofs.numbers.Offsets.note_copies.Given as goal
 
 abbrev pub invariant-loop-next : goal.invariant-loop-next
 invariant-loop-next l =
-    with_notes l.self l.stand_ins.actuals l.next (l.self.owner - l.next) l.names
-    ≡ with_notes l.self l.stand_ins.actuals l.self.span.first (l.self.owner - l.self.span.first) l.fn.names
+    with_notes l.self l.stand_ins.actuals l.next (l.self.span.end - l.next) l.names
+    ≡ with_notes l.self l.stand_ins.actuals l.self.span.first (l.self.span.end - l.self.span.first) l.fn.names
 
 abbrev pub decreases-loop-next : goal.decreases-loop-next
-decreases-loop-next l = l.self.owner - l.next
+decreases-loop-next l = l.self.span.end - l.next

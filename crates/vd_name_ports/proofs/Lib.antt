@@ -1,0 +1,4 @@
+pub mod AssociationLemmas
+pub mod ConversionLemmas
+pub mod FrontLemmas
+pub mod MapLemmas

@@ -1,0 +1,14 @@
+mod Trees
+mod Fitting
+mod Readings
+mod Expressions
+mod Steps
+mod Endings
+mod Generics
+mod Ports
+mod Rows
+mod Entries
+mod Walk
+mod Designs
+mod Naming
+mod Implied

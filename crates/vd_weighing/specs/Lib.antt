@@ -1,0 +1,4 @@
+pub mod Copies
+pub mod Limits
+pub mod Tables
+pub mod Weighing
