@@ -1,0 +1,6 @@
+//! The rules that need types, values and static names, in groups that are asked one by one, and the first refusals of all of them.
+#![tactic(auto)]
+
+pub mod firsts;
+
+pub use firsts::{Firsts, nothing_refused, together};
