@@ -1,6 +1,5 @@
 -- What a walk comes to, as the resolved design.
-use Rattle.std.proofs.Common.{◌≡◌, List, Option, ap}
-use Rattle.vd_bytes.specs.declared.answers.Refused.{Refused}
+use Rattle.std.proofs.Common.{◌≡◌, List, ap}
 use Rattle.vd_forest.specs.Forest.{Forest}
 use Rattle.vd_forest.specs.Store.{at}
 use Rattle.vd_name_resolution.specs.Designs.{settled_from}
