@@ -1,0 +1,6 @@
+//! What a name can come to at its end, whatever is wanted of it: so a name need not be read for each type there is. (IEEE 1076, names; overload resolution)
+#![tactic(auto)]
+
+pub mod laws;
+
+pub use laws::{goals_are_met_at_ends, steps_keep_goals};
