@@ -1,6 +1,6 @@
 -- What a name can come to at its end. What is wanted of a name is asked there alone: each piece leads to the same prefixes whatever is wanted.
 use Rattle.std.specs.Prelude.{ℕ, List, [], map}
-use Rattle.std.specs.List.{flat_map}
+use Rattle.std.specs.List.{Contains, flat_map}
 use Rattle.vd_forest.specs.Forest.{Forest, nothing, more}
 use Rattle.vd_forms.specs.declared.form.Form.{Form}
 use Rattle.vd_sights.specs.Sights.{Sight}
@@ -49,3 +49,8 @@ ends_behind s ps (more form text place parts next) = ends_behind s (flat_map (be
 abbrev pub ends_of_name : Sight → Forest Form → List Prefix
 ends_of_name s nothing = []
 ends_of_name s (more form text place parts next) = ends_behind s (heads s form text parts) next
+
+-- lists with the same members, whatever their order, and however often each stands there
+pub record SameMembers (ps qs : List Prefix) : Type 0 where
+  pub all : (p : Prefix) → Contains qs p → Contains ps p
+  pub no_more : (p : Prefix) → Contains ps p → Contains qs p
