@@ -1,5 +1,5 @@
 -- What the gathered elements of a generic map have for a generic: by its number, or by its place where none names it.
-use Rattle.std.specs.Prelude.{ℕ, Bool, false, not, nat_eq, List, Option, Some, None, slice_index_or, if◌then◌else◌}
+use Rattle.std.specs.Prelude.{ℕ, Bool, false, not, nat_eq, Option, Some, None, slice_index_or, if◌then◌else◌}
 use Rattle.indexmap.specs.IndexMap.{get}
 use Rattle.vd_meaning.specs.Tables.{same_type}
 use Rattle.vd_operator_rules.specs.declared.elements.Elements.{Elements}

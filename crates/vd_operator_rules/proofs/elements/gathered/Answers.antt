@@ -1,4 +1,4 @@
-use Rattle.std.proofs.Common.{◌≡◌, ◌∷◌, ◌++◌, map, nat_eq, ap, ap₂, sym, ◌∙◌, arith}
+use Rattle.std.proofs.Common.{◌≡◌, ◌∷◌, ◌++◌, map, nat_eq, ap, ap₂, sym, ◌∙◌}
 use Rattle.indexmap.specs.IndexMap.{get}
 use Rattle.vd_meaning.specs.Facets.{nth}
 use Rattle.vd_meaning.specs.Meanings.{map_element, meanings}
@@ -19,11 +19,11 @@ loop-first-preserved c =
     let split : (t : Table) → meanings t f ≡ nth 0 (meanings t f) ∷ meanings t n.next = λ t. first_and_rest t f n.form n.text.now n.place n.parts n.next c.in-Some.ensures in
     record {
       placed = λ t. placed_more c.loop-first.found.placed.items c.add.new.self.placed.items _ c.formal_of-formal.result c.is_open-open.result
-        (map_element (nth 0 (meanings t f))) (map map_element (meanings t n.next)) c.in_ok-add.ensures.placed (c.formal_of-formal.ensures t) (c.is_open-open.ensures t)
-        (ap (λ ms. c.loop-first.found.placed.items ++ map is_placed (map map_element ms)) (sym (split t)) ∙ c.loop-first.invariant.placed t);
+          (map_element (nth 0 (meanings t f))) (map map_element (meanings t n.next)) c.in_ok-add.ensures.placed (c.formal_of-formal.ensures t) (c.is_open-open.ensures t)
+          (ap (λ ms. c.loop-first.found.placed.items ++ map is_placed (map map_element ms)) (sym (split t)) ∙ c.loop-first.invariant.placed t);
       named = λ t g. named_more (get nat_eq c.loop-first.found.named g) (get nat_eq c.add.new.self.named g) _ c.formal_of-formal.result c.is_open-open.result
-        (map_element (nth 0 (meanings t f))) (map map_element (meanings t n.next)) g (c.in_ok-add.ensures.named g) (c.formal_of-formal.ensures t) (c.is_open-open.ensures t)
-        (ap (λ ms. or_flag (get nat_eq c.loop-first.found.named g) (named_flag g (map map_element ms))) (sym (split t)) ∙ c.loop-first.invariant.named t g);
+          (map_element (nth 0 (meanings t f))) (map map_element (meanings t n.next)) g (c.in_ok-add.ensures.named g) (c.formal_of-formal.ensures t) (c.is_open-open.ensures t)
+          (ap (λ ms. or_flag (get nat_eq c.loop-first.found.named g) (named_flag g (map map_element ms))) (sym (split t)) ∙ c.loop-first.invariant.named t g);
     }
 
 pub returns : goal.returns

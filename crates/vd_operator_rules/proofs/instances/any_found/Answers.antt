@@ -14,7 +14,7 @@ loop-at-preserved c = λ xs told.
     let g = c.index-generics-at.result in
     let k = c.index-copies-at.result in
     let not_found : is_found t i g k xs ≡ false =
-        ap (λ b. not b && names_refused t (Some k)) (sym (told i g)) ∙ sym c.is_found.ensures ∙ c.if-is_found.false in
+    ap (λ b. not b && names_refused t (Some k)) (sym (told i g)) ∙ sym c.is_found.ensures ∙ c.if-is_found.false in
     sym (next_found t i gs cs xs g k (omega (arith, c.loop-at-test.true, c.min-at-end.ensures)) (omega (arith, c.loop-at-test.true, c.min-at-end.ensures))
     c.index-generics-at.is c.index-copies-at.is
     ∙ ap (λ b. b || any_found t (i + 1) (drop (i + 1) gs) (drop (i + 1) cs) xs) not_found)

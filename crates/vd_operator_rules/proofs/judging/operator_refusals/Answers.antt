@@ -1,4 +1,4 @@
-use Rattle.std.proofs.Common.{◌≡◌, ◌∙◌}
+use Rattle.std.proofs.Common.{◌∙◌}
 use Rattle.vd_operator_rules.proofs.OperatorLemmas.{none_of_1993, first_of_2019}
 use Rattle.vd_operator_rules.proofs.judging.operator_refusals.Goals as goal
 

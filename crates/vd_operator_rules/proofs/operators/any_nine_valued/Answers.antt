@@ -12,8 +12,8 @@ returns-then-is_of_nine_values c =
     let i = c.loop-parameter.parameter-index in
     let p = c.parameter-item.result in
     let yes : is_nine_valued (sort_of (table V2019 ds) (slice_index_or ds p no_declaration).mark) ≡ true =
-        ap (λ q. is_nine_valued (sort_of (table V2019 ds) (slice_index_or ds q no_declaration).mark)) (sym c.number.ensures)
-        ∙ sym c.is_of_nine_values.ensures ∙ c.if-is_of_nine_values.true in
+    ap (λ q. is_nine_valued (sort_of (table V2019 ds) (slice_index_or ds q no_declaration).mark)) (sym c.number.ensures)
+    ∙ sym c.is_of_nine_values.ensures ∙ c.if-is_of_nine_values.true in
     sym (next_parameter ds ps i p c.loop-parameter-test.true c.parameter-item.is
     ∙ ap (λ b. b || any_nine_valued (table V2019 ds) (marks ds (drop (i + 1) ps))) yes) ∙ c.loop-parameter.invariant
 
@@ -24,7 +24,7 @@ loop-parameter-preserved c =
     let i = c.loop-parameter.parameter-index in
     let p = c.parameter-item.result in
     let no : is_nine_valued (sort_of (table V2019 ds) (slice_index_or ds p no_declaration).mark) ≡ false =
-        ap (λ q. is_nine_valued (sort_of (table V2019 ds) (slice_index_or ds q no_declaration).mark)) (sym c.number.ensures)
-        ∙ sym c.is_of_nine_values.ensures ∙ c.if-is_of_nine_values.false in
+    ap (λ q. is_nine_valued (sort_of (table V2019 ds) (slice_index_or ds q no_declaration).mark)) (sym c.number.ensures)
+    ∙ sym c.is_of_nine_values.ensures ∙ c.if-is_of_nine_values.false in
     sym (next_parameter ds ps i p c.loop-parameter-test.true c.parameter-item.is
     ∙ ap (λ b. b || any_nine_valued (table V2019 ds) (marks ds (drop (i + 1) ps))) no) ∙ c.loop-parameter.invariant

@@ -1,4 +1,4 @@
-use Rattle.std.proofs.Common.{◌≡◌, ◌&&◌, ap, ap₂, sym, ◌∙◌}
+use Rattle.std.proofs.Common.{◌&&◌, ap, ap₂, sym, ◌∙◌}
 use Rattle.vd_meaning.specs.Operators.{symbol}
 use Rattle.vd_meaning.specs.Tables.{operand_types, table}
 use Rattle.vd_operator_rules.proofs.OperatorLemmas.{marks}

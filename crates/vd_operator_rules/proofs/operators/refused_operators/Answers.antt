@@ -13,9 +13,9 @@ loop-number-preserved c =
     record {
       as_many = grind (arith, common_steps, c.in_ok-push.ensures.items);
       told = λ n lt.
-        ap (λ l. Rattle.std.proofs.Common.slice_index_or l n Rattle.std.proofs.Common.false) c.in_ok-push.ensures.items
-        ∙ told_more c.loop-number.refused.items f c.is_refused_operator-is_refused.result (c.is_refused_operator-is_refused.ensures ∙ ap f (sym known.as_many))
-        (λ k within. known.told k (omega arith)) n (omega arith);
+          ap (λ l. Rattle.std.proofs.Common.slice_index_or l n Rattle.std.proofs.Common.false) c.in_ok-push.ensures.items
+          ∙ told_more c.loop-number.refused.items f c.is_refused_operator-is_refused.result (c.is_refused_operator-is_refused.ensures ∙ ap f (sym known.as_many))
+          (λ k within. known.told k (omega arith)) n (omega arith);
     }
 
 pub returns : goal.returns

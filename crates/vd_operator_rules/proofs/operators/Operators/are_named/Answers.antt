@@ -1,4 +1,4 @@
-use Rattle.std.proofs.Common.{◌≡◌, ap, ◌∙◌}
+use Rattle.std.proofs.Common.{ap, ◌∙◌}
 use Rattle.vd_meaning.specs.Tables.{followed, table}
 use Rattle.vd_operator_rules.proofs.OperatorLemmas.{named_refused}
 use Rattle.vd_trees.specs.declared.revision.Revision.TheVariants.{V2019}
