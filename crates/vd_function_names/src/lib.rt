@@ -1,0 +1,5 @@
+//! Names in functions: no signals, and no variables that the function doesn't declare itself.
+#![tactic(auto)]
+
+pub mod counting;
+pub mod numbers;
