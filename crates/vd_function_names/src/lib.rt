@@ -2,4 +2,7 @@
 #![tactic(auto)]
 
 pub mod counting;
+pub mod locals;
 pub mod numbers;
+pub mod reaching;
+pub mod roles;
