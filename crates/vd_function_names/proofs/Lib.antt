@@ -1,2 +1,5 @@
+pub mod FirstsLemmas
+pub mod ForeignLemmas
 pub mod NumberLemmas
 pub mod ReachingLemmas
+pub mod WalkLemmas

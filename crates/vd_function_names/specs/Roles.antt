@@ -1,4 +1,5 @@
 -- What a declaration is to a name in a function, and what the pieces of a name do.
+use Rattle.std.specs.Prelude.{Bool, false, not, true}
 use Rattle.vd_forms.specs.declared.form.Form.{Form}
 use Rattle.vd_function_names.specs.declared.reaching.Step.{Step}
 use Rattle.vd_function_names.specs.declared.roles.Named.{Named}
@@ -31,3 +32,9 @@ step_of form.Attribute r = step.Ends
 step_of form.RangeAttribute r = step.Ends
 step_of form.Qualification r = step.Ends
 step_of _ r = step.Stays
+
+-- a signal, or a variable that the function doesn't declare itself
+abbrev pub is_foreign_kind : Named → Bool → Bool
+is_foreign_kind named.Signal is_local = true
+is_foreign_kind named.Variable is_local = not is_local
+is_foreign_kind _ is_local = false

@@ -2,7 +2,11 @@
 #![tactic(auto)]
 
 pub mod counting;
+pub mod foreign;
 pub mod locals;
 pub mod numbers;
 pub mod reaching;
 pub mod roles;
+pub mod walk;
+
+pub use walk::foreign_refusals;
