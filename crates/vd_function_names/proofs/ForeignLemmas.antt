@@ -1,5 +1,5 @@
 -- What a function may not name, by what a declaration is.
-use Rattle.std.proofs.Common.{◌≡◌, Bool, List, Option, Some, ap, ap₂, false, not, refl, sym, true, ℕ, ◌&&◌, ◌||◌, ◌∙◌}
+use Rattle.std.proofs.Common.{◌≡◌, Bool, List, Option, Some, ap, ap₂, not, refl, sym, ℕ, ◌&&◌, ◌||◌, ◌∙◌}
 use Rattle.vd_function_names.specs.Roles.{is_foreign_kind, named_as}
 use Rattle.vd_function_names.specs.declared.roles.Named.{Named}
 use Rattle.vd_meaning.specs.Tables.{Role, SignalRole, VariableRole, role_of}

@@ -1,9 +1,9 @@
 -- What is found for lists of identifiers is what they mean. No name has a dash, so that a caller can name each in `#[tactic(auto, using(..))]`.
-use Rattle.std.proofs.Common.{◌≡◌, ℕ, Bool, true, false, cond, List, [], ◌∷◌, ◌++◌, Option, Some, None, refl, sym, ap, ap₂, ◌∙◌, arith}
+use Rattle.std.proofs.Common.{◌≡◌, ℕ, List, [], ◌∷◌, ◌++◌, Option, Some, None, refl, sym, ap, ap₂, ◌∙◌}
 use Rattle.std.specs.Prelude.{option_to_list}
 use Rattle.vd_bytes.specs.declared.places.Place.{Place}
 use Rattle.vd_forest.specs.Forest.{Forest, nothing, more}
-use Rattle.vd_function_names.specs.Counting.{counted, counts, behind, inside, own_number, number_finder}
+use Rattle.vd_function_names.specs.Counting.{counted, inside, own_number, number_finder}
 use Rattle.vd_function_names.specs.declared.counting.Counted.{Counted}
 use Rattle.vd_function_names.specs.declared.counting.Counting.{Counting}
 use Rattle.vd_gathering.specs.Gathering.{all_found, with_answer}

@@ -1,19 +1,17 @@
 -- The declaration that a name reaches, piece by piece. No name has a dash, so that a caller can name each in `#[tactic(auto, using(..))]`.
-use Rattle.std.proofs.Common.{◌≡◌, ℕ, Bool, true, false, List, [], ◌∷◌, ◌++◌, Option, Some, None, ◌||◌, is_some, refl, sym, ap, ◌∙◌}
-use Rattle.std.specs.Prelude.{codes, if◌then◌else◌}
+use Rattle.std.proofs.Common.{◌≡◌, ℕ, Bool, true, false, List, Option, ◌||◌, refl, ap, ◌∙◌}
+use Rattle.std.specs.Prelude.{if◌then◌else◌}
 use Rattle.vd_bytes.specs.declared.places.Place.{Place}
-use Rattle.vd_forest.specs.Forest.{Forest, nothing, more, text_of}
+use Rattle.vd_forest.specs.Forest.{Forest, nothing, more}
 use Rattle.vd_forms.specs.declared.form.Form.{Form}
 use Rattle.vd_function_names.specs.Roles.{named_as, step_of}
 use Rattle.vd_function_names.specs.declared.reaching.Step.{Step}
-use Rattle.vd_function_names.specs.declared.roles.Named.{Named}
 use Rattle.vd_meaning.specs.Tables.{ElementRole, FunctionRole, MarkRole, Role, Table, role_of}
 use Rattle.vd_resolved.specs.declared.node.Resolved.{Resolved}
 use Rattle.vd_value_rules.specs.Designs.{Design}
 use Rattle.vd_value_rules.specs.Reaching.{Reached, first_reached, is_over, reached, reached_behind, selected_in, bracketed_in, with_piece}
 use Rattle.vd_forms.specs.declared.form.Form.TheVariants as form
 use Rattle.vd_function_names.specs.declared.reaching.Step.TheVariants as step
-use Rattle.vd_function_names.specs.declared.roles.Named.TheVariants as named
 
 -- what is named behind a piece, and then behind the others
 abbrev pub behind_step : Step → Option ℕ → Option ℕ → (Option ℕ → Option ℕ) → Option ℕ

@@ -1,12 +1,12 @@
 -- What the walk comes to is what the group refuses. No name has a dash, so that a caller can name each in `#[tactic(auto, using(..))]`.
-use Rattle.std.proofs.Common.{◌≡◌, Bool, List, None, Option, Some, [], ap, ap₂, false, refl, sym, true, ℕ, ◌++◌, ◌∙◌, ◌∷◌}
+use Rattle.std.proofs.Common.{◌≡◌, Bool, List, None, Option, Some, [], ap, ap₂, false, refl, sym, true, ℕ, ◌++◌, ◌∙◌}
 use Rattle.std.specs.Prelude.{if◌then◌else◌}
 use Rattle.vd_bytes.specs.declared.answers.Refused.{Refused}
 use Rattle.vd_bytes.specs.declared.places.Place.{Place}
 use Rattle.vd_forest.specs.Forest.{Forest, more, nothing}
 use Rattle.vd_forms.specs.declared.form.Form.{Form}
 use Rattle.vd_function_names.proofs.FirstsLemmas.{AreOfRules, firsts_of_rules, forest_of_rules, no_refusals, refusal_of_rules}
-use Rattle.vd_function_names.specs.Functions.{among, is_function, names_walker, restored}
+use Rattle.vd_function_names.specs.Functions.{among, is_function, names_walker}
 use Rattle.vd_least.proofs.LeastLaws.{least_of_all}
 use Rattle.vd_least.proofs.OrderLaws.{lesser_brackets}
 use Rattle.vd_least.specs.Least.{Judge, all_broken, least, least_of, lesser}
@@ -16,7 +16,7 @@ use Rattle.vd_rule_groups.specs.Groups.{broken_by, firsts_by, judge_by, name_in_
 use Rattle.vd_rule_groups.specs.declared.firsts.Firsts.{Firsts}
 use Rattle.vd_trees.specs.declared.revision.Revision.{Revision}
 use Rattle.vd_value_rules.specs.Designs.{Design, design_of}
-use Rattle.vd_value_rules.specs.Names.{broken_in_function, is_foreign}
+use Rattle.vd_value_rules.specs.Names.{is_foreign}
 use Rattle.vd_value_rules.specs.Reaching.{reached}
 use Rattle.vd_value_rules.specs.Standings.{State, beginning, locals_down, state_along, state_down}
 use Rattle.vd_walking.specs.Walking.{Entry, Inside, Walked, followed, through, walked}

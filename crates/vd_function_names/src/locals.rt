@@ -76,10 +76,7 @@ fn add_variables(
 }
 
 /// The variables that some items declare.
-pub fn variables_in(
-    alloc: Global,
-    items: &Cursor<'_, Resolved>,
-) -> Result<Vec<DeclId>, AllocError>
+pub fn variables_in(alloc: Global, items: &Cursor<'_, Resolved>) -> Result<Vec<DeclId>, AllocError>
     ensures { IfOk result (λ found. (d : Design) → found.items ≡ variables_of_items d items.now) }
 {
     let mut found = Vec::new(alloc);

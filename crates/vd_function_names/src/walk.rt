@@ -28,10 +28,7 @@ fn is_function(form: Form) -> bool
 }
 
 /// The variables that a function declares, which only a body does.
-fn variables_of(
-    alloc: Global,
-    node: &Opened<'_, Resolved>,
-) -> Result<Locals, AllocError>
+fn variables_of(alloc: Global, node: &Opened<'_, Resolved>) -> Result<Locals, AllocError>
     ensures { IfOk result (λ locals. opens_function node.now.form.form ≡ true
         → (d : Design) (before : Option (List ℕ)) → Some locals ≡ locals_down node.now.form.form d node.now.parts before) }
 {
