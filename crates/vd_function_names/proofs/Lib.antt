@@ -1,4 +1,3 @@
-pub mod FirstsLemmas
 pub mod ForeignLemmas
 pub mod NumberLemmas
 pub mod ReachingLemmas

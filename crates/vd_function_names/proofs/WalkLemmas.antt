@@ -1,22 +1,24 @@
 -- What the walk comes to is what the group refuses. No name has a dash, so that a caller can name each in `#[tactic(auto, using(..))]`.
 use Rattle.std.proofs.Common.{◌≡◌, Bool, List, None, Option, Some, [], ap, ap₂, false, refl, sym, true, ℕ, ◌++◌, ◌∙◌}
 use Rattle.std.specs.Prelude.{if◌then◌else◌}
+use Rattle.std.specs.List.{filter}
 use Rattle.vd_bytes.specs.declared.answers.Refused.{Refused}
 use Rattle.vd_bytes.specs.declared.places.Place.{Place}
 use Rattle.vd_forest.specs.Forest.{Forest, more, nothing}
 use Rattle.vd_forms.specs.declared.form.Form.{Form}
-use Rattle.vd_function_names.proofs.FirstsLemmas.{AreOfRules, firsts_of_rules, forest_of_rules, no_refusals, refusal_of_rules}
 use Rattle.vd_function_names.specs.Functions.{among, is_function, names_walker}
-use Rattle.vd_least.proofs.LeastLaws.{least_of_all}
 use Rattle.vd_least.proofs.OrderLaws.{lesser_brackets}
 use Rattle.vd_least.specs.Least.{Judge, all_broken, least, least_of, lesser}
 use Rattle.vd_resolved.specs.Trees.{ResolvedTree}
 use Rattle.vd_resolved.specs.declared.node.Resolved.{Resolved}
+use Rattle.vd_rule_groups.proofs.WalkLemmas.{firsts_of_rules_alone, least_alike}
 use Rattle.vd_rule_groups.specs.Groups.{broken_by, firsts_by, judge_by, name_in_function, names_in_functions}
 use Rattle.vd_rule_groups.specs.declared.firsts.Firsts.{Firsts}
 use Rattle.vd_trees.specs.declared.revision.Revision.{Revision}
 use Rattle.vd_value_rules.specs.Designs.{Design, design_of}
-use Rattle.vd_value_rules.specs.Names.{is_foreign}
+use Rattle.vd_value_rules.specs.Names.{broken_in_function, is_foreign}
+use Rattle.vd_value_rules.specs.Judging.{refused_if}
+use Rattle.vd_value_rules.specs.Rules.{is_of_names}
 use Rattle.vd_value_rules.specs.Reaching.{reached}
 use Rattle.vd_value_rules.specs.Standings.{State, beginning, locals_down, state_along, state_down}
 use Rattle.vd_walking.specs.Walking.{Entry, Inside, Walked, followed, through, walked}
@@ -36,16 +38,25 @@ same_name : (f : Form) (d : Design) (s : State) (place : Place) (parts : Forest 
 same_name form.Name d s place parts = refl
 same_name _ d s place parts = refl
 
-same_refusals : (d : Design) (s : State) (f : Forest Resolved) → all_broken (names_judge d) s.locals f ≡ all_broken (judge_by names_in_functions d) s f
-same_refusals d s nothing = refl
-same_refusals d s (more n text place parts next) =
-    ap₂ (λ (xs ys : List Refused). xs ++ ys) (same_name n.form d s place parts)
-    (ap₂ (λ (xs ys : List Refused). xs ++ ys) (same_refusals d (state_down d s n text place parts) parts) (same_refusals d (state_along d s n text place parts) next))
+none_of_names : (f : Form) (d : Design) (s : State) (place : Place) (parts : Forest Resolved) → filter is_of_names (name_in_function f d s place parts) ≡ []
+none_of_names form.Name d s place parts = by s.locals
+  where
+    by_case : (b : Bool) → filter is_of_names (refused_if b place 409) ≡ []
+    by_case true = refl
+    by_case false = refl
 
-of_rules : (d : Design) (f : Form) (locals : Option (List ℕ)) (place : Place) (parts : Forest Resolved) → AreOfRules (name_in_function f d (among locals) place parts)
-of_rules d form.Name None place parts = no_refusals
-of_rules d form.Name (Some locals) place parts = refusal_of_rules (is_foreign locals d (reached d parts)) place
-of_rules d _ locals place parts = no_refusals
+    by : (locals : Option (List ℕ)) → filter is_of_names (broken_in_function locals d place (reached d parts)) ≡ []
+    by None = refl
+    by (Some locals) = by_case (is_foreign locals d (reached d parts))
+none_of_names _ d s place parts = refl
+
+same_least : (d : Design) (s : State) (f : Forest Resolved) → least (names_judge d) s.locals f ≡ least (judge_by names_in_functions d) s f
+same_least d s f =
+    least_alike (names_judge d) (judge_by names_in_functions d) (λ locals t. t.locals ≡ locals)
+    (λ locals t n text place parts alike. ap (λ ls. name_in_function n.form d (among ls) place parts) (sym alike) ∙ same_name n.form d t place parts)
+    (λ locals t n text place parts alike. ap (locals_down n.form d parts) alike)
+    (λ locals t n text place parts alike. alike)
+    s.locals s f refl
 
 -- ---- the walk
 
@@ -101,8 +112,9 @@ pub firsts_are : {G D : Type 0} (r : Revision) (tree : ResolvedTree) (table : D)
     → record { of_names = None; of_rules = first } ≡ firsts_by names_in_functions r tree
 firsts_are {G} {D} r tree table units w first units_are is first_is =
     let d = design_of r tree in
-    let rs = all_broken (names_judge d) None tree.units in
     let firsts : Option Refused → Firsts = λ o. record { of_names = None; of_rules = o } in
-    ap firsts (first_is ∙ ap (λ (o : Walked G (Option (List ℕ)) D). o.first) (is ∙ ap (λ f. walked (names_walker d) f None table) units_are ∙ walk_is d tree.units None table) ∙ least_of_all (names_judge d) None tree.units)
-    ∙ sym (firsts_of_rules rs (forest_of_rules (names_judge d) (λ locals n text place parts. of_rules d n.form locals place parts) None tree.units))
-    ∙ ap Rattle.vd_rule_groups.specs.Groups.firsts_of (same_refusals d beginning tree.units)
+    ap firsts
+    (first_is
+    ∙ ap (λ (o : Walked G (Option (List ℕ)) D). o.first) (is ∙ ap (λ f. walked (names_walker d) f None table) units_are ∙ walk_is d tree.units None table)
+    ∙ same_least d beginning tree.units)
+    ∙ sym (firsts_of_rules_alone names_in_functions r tree (λ e s n text place parts. none_of_names n.form e s place parts))
