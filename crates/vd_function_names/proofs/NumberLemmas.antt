@@ -23,6 +23,7 @@ module _ (t : Table) where
   -- the numbers of a node, from what its parts mean
   abbrev numbers_by : Counting → Resolved → List Meaning → List ℕ
   numbers_by counting.Itself n ms = option_to_list n.declaration
+  numbers_by counting.Character n ms = []
   numbers_by counting.AllParts n ms = flattened (λ m. m.numbers) ms
   numbers_by counting.FirstPart n ms = (nth 0 ms).numbers
   numbers_by counting.SecondPart n ms = (nth 1 ms).numbers
@@ -46,6 +47,7 @@ module _ (t : Table) where
       by : (number : Option ℕ) → with_answer number ([] ++ rest) ≡ option_to_list number ++ rest
       by None = refl
       by (Some k) = refl
+  answer_in_front counting.Character n ms rest = refl
   answer_in_front counting.AllParts n ms rest = refl
   answer_in_front counting.FirstPart n ms rest = refl
   answer_in_front counting.SecondPart n ms rest = refl

@@ -12,6 +12,7 @@ use Rattle.vd_function_names.specs.declared.counting.Counting.TheVariants as cou
 
 abbrev pub counted : Kinds.Kind → Counting
 counted Kinds.Word = counting.Itself
+counted Kinds.CharacterLiteral = counting.Character
 counted Kinds.Identifiers = counting.AllParts
 counted Kinds.Associated = counting.SecondPart
 counted Kinds.AssociatedOthers = counting.FirstPart

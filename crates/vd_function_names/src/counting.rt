@@ -10,6 +10,8 @@ use vd_forms::Form;
 #[derive(Clone, Copy)]
 pub enum Counting {
     Itself,
+    /// It is a character literal, which has no number.
+    Character,
     AllParts,
     FirstPart,
     SecondPart,
@@ -26,11 +28,12 @@ pub enum Counted {
 }
 
 /// Where the declarations of nodes of the form stand.
-pub(crate) fn counting_of(form: Form) -> Counting
+pub fn counting_of(form: Form) -> Counting
     ensures { result ≡ counted (kind form) }
 {
     match form {
         Form::Identifier => Counting::Itself,
+        Form::Letter => Counting::Character,
         Form::IdentifierList => Counting::AllParts,
         Form::Association => Counting::SecondPart,
         Form::OthersAssociation | Form::UnconstrainedIndex => Counting::FirstPart,
@@ -39,14 +42,14 @@ pub(crate) fn counting_of(form: Form) -> Counting
 }
 
 /// Whether the first tree counts.
-pub(crate) fn counts(trees: Counted) -> bool
+pub fn counts(trees: Counted) -> bool
     ensures { result ≡ does_count trees }
 {
     matches!(trees, Counted::Each | Counted::FirstAlone)
 }
 
 /// Which of the trees behind the first count.
-pub(crate) fn behind(trees: Counted) -> Counted
+pub fn behind(trees: Counted) -> Counted
     ensures { result ≡ trees_behind trees }
 {
     match trees {
@@ -57,7 +60,7 @@ pub(crate) fn behind(trees: Counted) -> Counted
 }
 
 /// Which of a node's parts count.
-pub(crate) fn inside(counting: Counting) -> Counted
+pub fn inside(counting: Counting) -> Counted
     ensures { result ≡ trees_inside counting }
 {
     match counting {
