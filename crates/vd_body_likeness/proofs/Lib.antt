@@ -1,2 +1,4 @@
+pub mod ItemLemmas
+pub mod SameLemmas
 pub mod SayingLemmas
 pub mod WordLemmas

@@ -2,4 +2,7 @@
 #![tactic(auto)]
 
 pub mod identified;
+pub mod items;
+pub mod pairs;
+pub mod same;
 pub mod words;
