@@ -3,6 +3,9 @@
 
 pub mod identified;
 pub mod items;
+pub mod likeness;
 pub mod pairs;
 pub mod same;
 pub mod words;
+
+pub use likeness::{differs, is_like};

@@ -18,7 +18,7 @@ fn form_number(form: Form) -> u16
     form as u16
 }
 
-pub(crate) fn same_form(f: Form, g: Form) -> bool
+pub fn same_form(f: Form, g: Form) -> bool
     ensures { result ≡ of_same_form f g }
 {
     form_number(f) == form_number(g)
@@ -80,7 +80,7 @@ enum Compared<'a> {
 }
 
 /// Whether the first nodes of two forests say the same.
-fn same_first(pairs: &Pairs, x: &Opened<'_, Resolved>, y: &Opened<'_, Resolved>) -> bool
+pub fn same_first(pairs: &Pairs, x: &Opened<'_, Resolved>, y: &Opened<'_, Resolved>) -> bool
     ensures { result ≡ (nodes_same pairs.now x.now.form y.now.form && bytes_eq x.now.text.now y.now.text.now) }
 {
     same_node(pairs, &x.form, &y.form) && x.text == y.text
