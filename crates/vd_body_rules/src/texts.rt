@@ -1,6 +1,7 @@
 //! The texts of functions that are known at a place.
 
-ghost use Rattle.std.specs.Prelude.{◌≡◌, ◌++◌, ◌∷◌, ◌-◌, [], IfOk, length, take};
+ghost use Rattle.std.specs.Prelude.{◌≡◌, ◌++◌, ◌∷◌, ◌-◌, [], IfOk, if◌then◌else◌, length, nat_eq, take, ℕ};
+ghost use Rattle.std.specs.HashMap.{get};
 ghost use Rattle.vd_body_rules.specs.Texts.{known_texts, or_nothing};
 
 use std::alloc::{AllocError, Global};
@@ -43,6 +44,26 @@ impl<'a> Model for Texts<'a> {
     ghost invariant = { λ a. IsTable a.entries.items (get nat_eq a.latest) };
 }
 
+/// The table in which a function has again what it had before.
+fn restore<'a>(
+    latest: HashMap<u32, Cursor<'a, Resolved>>,
+    number: u32,
+    before: Option<Cursor<'a, Resolved>>,
+) -> Result<HashMap<u32, Cursor<'a, Resolved>>, AllocError>
+    ensures { IfOk result (λ table. (k : ℕ) → get nat_eq table k ≡ (if nat_eq number k then before.entry else get nat_eq latest.entry k)) }
+{
+    let mut table = latest;
+    match before {
+        Some(text) => {
+            table.insert(number, text)?;
+        }
+        None => {
+            table.remove(&number);
+        }
+    }
+    Ok(table)
+}
+
 impl<'a> Texts<'a> {
     /// None.
     pub fn new(alloc: Global) -> Texts<'a>
@@ -73,7 +94,7 @@ impl<'a> Texts<'a> {
 
     /// One more.
     pub fn add(self, number: u32, text: Cursor<'a, Resolved>) -> Result<Texts<'a>, AllocError>
-        ensures { IfOk result (λ texts. texts ≡ self.entry ++ (number, text) ∷ []) }
+        ensures { IfOk result (λ texts. texts ≡ self.entry ++ (number, text.entry) ∷ []) }
     {
         let mut entries = self.entries;
         let mut latest = self.latest;
@@ -87,36 +108,33 @@ impl<'a> Texts<'a> {
     }
 
     /// All but the last one.
-    pub fn without_last(self) -> Result<Texts<'a>, AllocError>
+    fn without_last(self, alloc: Global) -> Result<Texts<'a>, AllocError>
         ensures { IfOk result (λ texts. texts ≡ take (length self.entry - 1) self.entry) }
     {
         let mut entries = self.entries;
-        let mut latest = self.latest;
-        if let Some(last) = entries.pop() {
-            let Entry {
-                number,
-                text: _,
-                before,
-            } = last;
-            match before {
-                Some(text) => {
-                    latest.insert(number, text)?;
-                }
-                None => {
-                    latest.remove(&number);
-                }
-            }
-        }
-        Ok(Texts { entries, latest })
+        let latest = self.latest;
+        let Some(last) = entries.pop() else {
+            return Ok(Texts::new(alloc));
+        };
+        let Entry {
+            number,
+            text: _,
+            before,
+        } = last;
+        let table = restore(latest, number, before)?;
+        Ok(Texts {
+            entries,
+            latest: table,
+        })
     }
 
     /// The first ones, as many as the number says.
-    pub fn back_to(self, count: usize) -> Result<Texts<'a>, AllocError>
+    pub fn back_to(self, alloc: Global, count: usize) -> Result<Texts<'a>, AllocError>
         ensures { IfOk result (λ texts. texts ≡ take count self.entry) }
     {
         let mut texts = self;
         while texts.len() > count {
-            texts = texts.without_last()?;
+            texts = texts.without_last(alloc)?;
         }
         Ok(texts)
     }
