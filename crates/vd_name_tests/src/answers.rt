@@ -3,32 +3,48 @@
 ghost use Rattle.std.specs.Prelude.{◌<◌, length};
 
 use std::alloc::{AllocError, Global};
+use vd_assignment_rules::assignment_refusals;
+use vd_body_rules::body_refusals;
 use vd_bytes::Refused;
 use vd_call_rules::first_call_refusal;
 use vd_directives::plain::plain;
 use vd_forest::Cursor;
 use vd_forms::Form;
+use vd_function_names::foreign_refusals;
 use vd_grammar19::read19;
 use vd_least::lesser;
 use vd_lex::lex19;
 use vd_name_resolution::resolve_names;
+use vd_operator_rules::operator_refusals;
+use vd_resolved::Tree;
+use vd_rule_groups::{Firsts, together};
 use vd_structure_rules::first_structure_refusal;
 use vd_test_texts::{Answer, LONGEST};
 use vd_text_rules::first_text_refusal;
 use vd_trees::Revision;
 
-/// What is refused of units first: of their names, or else of structure and calls.
+/// What the rules that need modes, texts of functions and operators refuse of a resolved design first.
+fn first_by_groups(alloc: Global, design: &Tree) -> Result<Firsts, AllocError> {
+    let assignments = assignment_refusals(alloc, design, Revision::V2019)?;
+    let operators = operator_refusals(alloc, Revision::V2019, design)?;
+    let foreign = foreign_refusals(alloc, Revision::V2019, design)?;
+    let bodies = body_refusals(alloc, Revision::V2019, design)?;
+    Ok(together(together(assignments, operators), together(foreign, bodies)))
+}
+
+/// What is refused of units first: of their names, or else of their rules.
 fn first_refusal(alloc: Global, units: &Cursor<'_, Form>) -> Result<Option<Refused>, AllocError> {
     let of_text = first_text_refusal(alloc, Revision::V2019, units)?;
     let design = resolve_names(alloc, Revision::V2019, units)?;
-    let of_names = lesser(of_text, design.first);
+    let groups = first_by_groups(alloc, &design.tree)?;
+    let of_names = lesser(lesser(of_text, design.first), groups.of_names);
     if of_names.is_some() {
         return Ok(of_names);
     }
     let resolved = design.tree.cursor();
     let of_structure = first_structure_refusal(alloc, Revision::V2019, &resolved)?;
     let of_calls = first_call_refusal(alloc, &resolved)?;
-    Ok(lesser(of_structure, of_calls))
+    Ok(lesser(lesser(of_structure, of_calls), groups.of_rules))
 }
 
 fn answered_short(alloc: Global, bytes: &[u8]) -> Answer
