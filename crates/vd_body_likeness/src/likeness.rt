@@ -35,12 +35,7 @@ fn same_tree(
 }
 
 /// Whether the first of some trees, as many as the numbers say, say the same one by one.
-fn same_trees(
-    alloc: Global,
-    pairs: &Pairs,
-    x: &Item<'_>,
-    y: &Item<'_>,
-) -> Result<bool, AllocError>
+fn same_trees(alloc: Global, pairs: &Pairs, x: &Item<'_>, y: &Item<'_>) -> Result<bool, AllocError>
     ensures { IfOk result (λ same. same
         ≡ all_say_same pairs.now (first_trees x.now.count x.now.trees) (first_trees y.now.count y.now.trees)) }
 {

@@ -73,11 +73,7 @@ impl Pairs {
 }
 
 /// What two functions declare at the same places.
-pub fn paired(
-    alloc: Global,
-    xs: &[Item<'_>],
-    ys: &[Item<'_>],
-) -> Result<Pairs, AllocError>
+pub fn paired(alloc: Global, xs: &[Item<'_>], ys: &[Item<'_>]) -> Result<Pairs, AllocError>
     ensures { IfOk result (λ pairs. pairs ≡ numbers_paired (items_of xs.now) (items_of ys.now)) }
 {
     let mut pairs = Pairs::new(alloc);

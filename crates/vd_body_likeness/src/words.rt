@@ -88,10 +88,7 @@ impl Finding<Resolved, Counted, Text> for Words {
 
 /// The identifiers and literals of the first tree, where it is a list of such.
 #[tactic(auto, using(crate::proofs::WordLemmas::texts_of_first))]
-pub fn texts_of_first(
-    alloc: Global,
-    trees: &Cursor<'_, Resolved>,
-) -> Result<Vec<Text>, AllocError>
+pub fn texts_of_first(alloc: Global, trees: &Cursor<'_, Resolved>) -> Result<Vec<Text>, AllocError>
     ensures { IfOk result (λ found. (t : Table) → found.items ≡ (nth 0 (meanings t trees.now)).texts) }
 {
     find_all(alloc, trees, Counted::FirstAlone, &Words)

@@ -68,17 +68,20 @@ impl<'a> Walking<'a, Resolved, u8, Texts<'a>, u8, Kept> for Bodies<'a> {
 }
 
 /// The first refusals of bodies: each is like the declaration of its function.
-pub fn body_refusals(
-    alloc: Global,
-    revision: Revision,
-    tree: &Tree,
-) -> Result<Firsts, AllocError>
+pub fn body_refusals(alloc: Global, revision: Revision, tree: &Tree) -> Result<Firsts, AllocError>
     ensures { IfOk result (λ found. found ≡ firsts_by bodies revision tree.now) }
 {
     let all = Bodies { revision, tree };
     let mut out = Store::new(alloc);
     let mut table = 0;
-    let outcome = walk(alloc, &tree.cursor(), Texts::new(alloc), &mut table, &mut out, &all)?;
+    let outcome = walk(
+        alloc,
+        &tree.cursor(),
+        Texts::new(alloc),
+        &mut table,
+        &mut out,
+        &all,
+    )?;
     let first = outcome.first;
     drop(outcome);
     Ok(Firsts {

@@ -9,6 +9,6 @@ returns c =
     let xs = c.args.xs.now in
     let ys = c.args.ys.now in
     elim c.loop-k-test.branch [
-      then-loop-k-test+else-k-ys w ↦ other_ended c.args.pairs.now xs ys c.loop-k.k i.in_one i.in_other w.if-k-ys.false ∙ i.same
+      | then-loop-k-test+else-k-ys w ↦ other_ended c.args.pairs.now xs ys c.loop-k.k i.in_one i.in_other w.if-k-ys.false ∙ i.same
       | else-loop-k-test w ↦ one_ended c.args.pairs.now xs ys c.loop-k.k i.in_one i.in_other w.loop-k-test.false ∙ i.same
     ]
