@@ -6,7 +6,7 @@ use Rattle.vd_composites.specs.Subtypes.{Scalars, constrained}
 use Rattle.vd_composites.specs.declared.ranges.Bounds.{Bounds}
 use Rattle.vd_composites.specs.declared.scalars.ScalarSubtype.{ScalarSubtype}
 use Rattle.vd_environments.specs.Environments.{Field, Indicated, OfScalar, Static, bounds_of_object, or_senseless, sliced_make}
-use Rattle.vd_environments.specs.Got.{Got, got}
+use Rattle.vd_environments.specs.Got.{Got, got, senseless}
 use Rattle.vd_forest.specs.Forest.{Forest}
 use Rattle.vd_forest.specs.Store.{at}
 use Rattle.vd_indicated.specs.Indicated.{fields_in, indicated_in}
@@ -33,6 +33,10 @@ scalar_indicated s literals is_resolved range =
 -- an array type of any bounds, by the subtype of its index
 abbrev pub indexed_by : Indicated → Indicated → Got Indicated
 indexed_by index element = scalars_of index.subtype >>= λ s. Ok (unconstrained_array s index.make element)
+
+-- one whose bounds are known later
+abbrev pub later_array : Static → Indicated → Indicated
+later_array known element = array_or_later senseless known element
 
 -- an array type with a range, where that is locally static
 abbrev pub ranging : Option ScalarSubtype → List (List ℕ) → Static → Indicated → Got Indicated

@@ -5,6 +5,7 @@ ghost use Rattle.vd_forest.specs.Forest.{more, no_place as nowhere, nothing};
 ghost use Rattle.vd_forest.specs.Store.{Extends, Holds, at};
 ghost use Rattle.vd_indicated.specs.Indicated.{fields_in, indicated_in, made_of, nothing_indicated, texts_in};
 ghost use Rattle.vd_indicating.specs.Made.{Indicates};
+ghost use Rattle.vd_value_rules.specs.Knowledge.{later_bounds as null_bounds};
 ghost use Rattle.vd_indicating.specs.Nodes.{IsOfSubtype};
 
 use std::alloc::AllocError;
@@ -28,6 +29,17 @@ pub(crate) fn no_place() -> Place
         file: 0,
         line: 0,
         column: 0,
+    }
+}
+
+/// The bounds of what is known later.
+pub(crate) fn later_bounds() -> Bounds
+    ensures { result ≡ null_bounds }
+{
+    Bounds {
+        left: 1,
+        right: 0,
+        down: false,
     }
 }
 
