@@ -1,6 +1,6 @@
 -- What the numbers of a store stand for that have been made.
-use Rattle.std.specs.Prelude.{◌≡◌, ◌≤◌, Bool, List, None, Ok, Option, Some, length, false, ℕ}
-use Rattle.vd_composites.specs.Scalars.{whole_range}
+use Rattle.std.specs.Prelude.{◌≡◌, ◌≤◌, ◌&&◌, Bool, List, None, Ok, Option, Some, if◌then◌else◌, length, ℕ}
+use Rattle.vd_composites.specs.Ranges.{lies_within}
 use Rattle.vd_composites.specs.Stops.{◌>>=◌}
 use Rattle.vd_composites.specs.Subtypes.{Scalars, constrained}
 use Rattle.vd_composites.specs.declared.ranges.Bounds.{Bounds}
@@ -13,7 +13,7 @@ use Rattle.vd_indicated.specs.Indicated.{fields_in, indicated_in}
 use Rattle.vd_indicated.specs.declared.forms.IndicatedForm.{IndicatedForm}
 use Rattle.vd_meaning.specs.Declarations.{constrained_array, unconstrained_array}
 use Rattle.vd_meaning.specs.Names.{scalars_of, sliced_subtype}
-use Rattle.vd_value_rules.specs.Knowledge.{array_or_later, or_later}
+use Rattle.vd_value_rules.specs.Knowledge.{array_or_later, is_resolved, or_later, widened}
 use Rattle.vd_value_rules.specs.Lengths.{or_none}
 
 -- the number stands for the subtype
@@ -43,9 +43,18 @@ abbrev pub ranging : Option ScalarSubtype → List (List ℕ) → Static → Ind
 ranging range literals known element =
     or_senseless range >>= λ s. Ok (constrained_array s.of_type s.range literals known element)
 
+-- a range, where it lies within another
+abbrev pub within_range : Bounds → Option Bounds → Option Bounds
+within_range whole None = None
+within_range whole (Some range) = if lies_within whole range then Some range else None
+
 -- a subtype with a constraint, by its range where that is locally static
 abbrev pub narrowed_by : Option Bounds → Static → Indicated → Indicated
 narrowed_by range known i = or_later (or_senseless range >>= λ b. got (constrained i.subtype b)) known i
+
+-- for choices or else
+abbrev pub narrowed_for : Bool → Option Bounds → Static → Indicated → Indicated
+narrowed_for choosing range known i = if choosing && is_resolved i.make then widened i else narrowed_by range known i
 
 abbrev pub slice_of : Bounds → Static → Indicated → Indicated
 slice_of b known i = or_none (sliced_subtype b i.subtype) (sliced_make known i.make)

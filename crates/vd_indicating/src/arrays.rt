@@ -15,7 +15,7 @@ use vd_forest::Store;
 use vd_indicated::{IndicatedForm, StaticSort};
 
 /// The node of an array.
-fn array_form(index: ScalarSubtype, bounds: Option<Bounds>, known: StaticSort) -> IndicatedForm
+pub(crate) fn array_form(index: ScalarSubtype, bounds: Option<Bounds>, known: StaticSort) -> IndicatedForm
     ensures { (texts : List (List ℕ)) (parts : List Field) →
         made_of result texts parts ≡ array_indicated index bounds (static_of known) (all_but_first texts) (first_indicated parts) }
 {

@@ -2,6 +2,8 @@
 #![tactic(auto)]
 
 pub mod arrays;
+pub mod constraints;
 mod nodes;
+pub mod objects;
 pub mod parts;
 pub mod types;
