@@ -1,12 +1,12 @@
 -- Constraints by whether their ranges lie within another.
-use Rattle.std.proofs.Common.{◌≡◌, Bool, Err, List, None, Ok, Option, Some, ap, false, if◌then◌else◌, refl, sym, true, ℕ, ◌∙◌}
+use Rattle.std.proofs.Common.{◌≡◌, Bool, Err, List, None, Ok, Option, Some, ap, false, if◌then◌else◌, refl, true, ℕ}
 use Rattle.vd_composites.specs.Ranges.{lies_within}
 use Rattle.vd_composites.specs.Stops.{OrStop}
 use Rattle.vd_composites.specs.Subtypes.{Arrays, Scalars, Subtype}
 use Rattle.vd_composites.specs.declared.ranges.Bounds.{Bounds}
 use Rattle.vd_composites.specs.declared.scalars.ScalarSubtype.{ScalarSubtype}
 use Rattle.vd_environments.specs.Environments.{Indicated, Static, both}
-use Rattle.vd_environments.specs.Got.{Got, got}
+use Rattle.vd_environments.specs.Got.{got}
 use Rattle.vd_indicated.specs.Indicated.{array_indicated}
 use Rattle.vd_indicating.specs.Made.{narrowed_by, scalar_indicated, within_range}
 use Rattle.vd_value_rules.specs.Knowledge.{later, later_bounds, or_later}

@@ -15,7 +15,11 @@ use vd_forest::Store;
 use vd_indicated::{IndicatedForm, StaticSort};
 
 /// The node of an array.
-pub(crate) fn array_form(index: ScalarSubtype, bounds: Option<Bounds>, known: StaticSort) -> IndicatedForm
+pub(crate) fn array_form(
+    index: ScalarSubtype,
+    bounds: Option<Bounds>,
+    known: StaticSort,
+) -> IndicatedForm
     ensures { (texts : List (List ℕ)) (parts : List Field) →
         made_of result texts parts ≡ array_indicated index bounds (static_of known) (all_but_first texts) (first_indicated parts) }
 {
@@ -69,7 +73,14 @@ fn later_array(
             down: false,
         },
     };
-    array(store, index, Some(later_bounds()), known.later(), 0, element)
+    array(
+        store,
+        index,
+        Some(later_bounds()),
+        known.later(),
+        0,
+        element,
+    )
 }
 
 /// An array type of any bounds, by the subtype of its index. Where that isn't scalar, one that is known later.
@@ -87,7 +98,9 @@ pub fn array_of_any_bounds(
 {
     let node = read_node(store, index);
     match node.form {
-        IndicatedForm::Scalar { subtype, range, .. } => array(store, subtype, None, range, node.parts, element),
+        IndicatedForm::Scalar { subtype, range, .. } => array(
+            store, subtype, None, range, node.parts, element,
+        ),
         _ => later_array(store, known, element),
     }
 }

@@ -22,7 +22,11 @@ fn within(whole: Bounds, range: Option<Bounds>) -> Option<Bounds>
     ensures { result ≡ within_range whole range }
 {
     let range = range?;
-    if whole.covers(range) { Some(range) } else { None }
+    if whole.covers(range) {
+        Some(range)
+    } else {
+        None
+    }
 }
 
 /// The node of a scalar subtype with a constraint.
@@ -82,9 +86,11 @@ fn narrowed_form(form: IndicatedForm, range: Option<Bounds>, known: StaticSort) 
             range: own,
         } => narrowed_scalar(subtype, is_resolved, own, range, known),
         IndicatedForm::Unbounded { index, known: own } => narrowed_array(index, own, range, known),
-        IndicatedForm::Bounded { index, known: own, .. } => {
-            array_form(index, Some(later_bounds()), known.later().both(own))
-        }
+        IndicatedForm::Bounded {
+            index,
+            known: own,
+            ..
+        } => { array_form(index, Some(later_bounds()), known.later().both(own)) }
         IndicatedForm::Record => IndicatedForm::Record,
         IndicatedForm::Literal => IndicatedForm::Literal,
     }

@@ -52,10 +52,7 @@ pub fn slice(
 
 /// The subtype of an object. Where it has no bounds, its value gives them, and they aren't known when the text is analysed.
 #[tactic(auto, using(vd_forest::proofs::StoreLemmas::growing))]
-pub fn object_subtype(
-    store: &mut Store<IndicatedForm>,
-    subtype: u32,
-) -> Result<u32, AllocError>
+pub fn object_subtype(store: &mut Store<IndicatedForm>, subtype: u32) -> Result<u32, AllocError>
     requires { subtype ≤ length store.old }
     ensures indicates { IfOk result (λ number. Indicates store.new number (object_of (indicated_in (at store.old subtype)))) }
     ensures extends { Extends store.old store.new }

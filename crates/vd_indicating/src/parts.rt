@@ -11,11 +11,7 @@ use vd_forest::Store;
 use vd_indicated::IndicatedForm;
 
 /// A literal in front of others.
-pub fn literal(
-    store: &mut Store<IndicatedForm>,
-    text: &[u8],
-    next: u32,
-) -> Result<u32, AllocError>
+pub fn literal(store: &mut Store<IndicatedForm>, text: &[u8], next: u32) -> Result<u32, AllocError>
     requires { next ≤ length store.old }
     ensures within { IfOk result (λ number. number ≤ length store.new) }
     ensures texts { IfOk result (λ number. texts_in (at store.new number) ≡ text.now ∷ texts_in (at store.old next)) }

@@ -1,4 +1,4 @@
-use Rattle.std.proofs.Common.{◌≡◌, Some, ap, sym, ◌∙◌}
+use Rattle.std.proofs.Common.{Some, ap, sym, ◌∙◌}
 use Rattle.vd_environments.specs.Environments.{both}
 use Rattle.vd_indicated.specs.Indicated.{all_but_first, array_indicated, first_indicated, static_of}
 use Rattle.vd_indicating.proofs.ConstraintLemmas.{array_left, array_taken}

@@ -1,4 +1,4 @@
-use Rattle.std.proofs.Common.{◌≡◌, ap, sym, ◌∙◌}
+use Rattle.std.proofs.Common.{ap, sym, ◌∙◌}
 use Rattle.vd_environments.specs.Environments.{both}
 use Rattle.vd_indicated.specs.Indicated.{static_of}
 use Rattle.vd_indicating.specs.Made.{scalar_indicated}
