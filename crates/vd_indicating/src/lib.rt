@@ -6,4 +6,6 @@ pub mod constraints;
 mod nodes;
 pub mod objects;
 pub mod parts;
+#[cfg(test)]
+mod tests;
 pub mod types;
