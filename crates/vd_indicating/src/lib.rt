@@ -3,6 +3,7 @@
 
 pub mod arrays;
 pub mod constraints;
+pub mod inside;
 mod nodes;
 pub mod objects;
 pub mod parts;

@@ -1,0 +1,23 @@
+use Rattle.std.proofs.Common.{◌≡◌, ◌∷◌, ◌<◌, ◌≤◌, List, Err, IfOk, Ok, ap, arith, length, slice_index_or, subst, sym, ◌∙◌, ℕ}
+use Rattle.vd_forest.specs.Forest.{Forest, more}
+use Rattle.vd_forest.specs.Store.{Holds, at}
+use Rattle.vd_indicated.specs.declared.forms.IndicatedForm.{IndicatedForm}
+use Rattle.vd_indicating.specs.Inside.{IsInside, form_inside}
+use Rattle.vd_indicating.proofs.InsideLemmas.{inside_added, inside_same}
+use Rattle.vd_indicating.proofs.inside.inside_trees.Goals as goal
+
+pub returns-then-is_inside-clause-inside : goal.returns-then-is_inside-clause-inside
+returns-then-is_inside-clause-inside c =
+    let head = c.in-Some.head in
+    let store = c.args.store.now in
+    let known = c.args.known.now in
+    let parts_in : head.parts < length known = omega (arith, c.in-Some.ensures.older, c.requires.lower_in) in
+    let next_in : head.next < length known = omega (arith, c.in-Some.ensures.older, c.requires.lower_in) in
+    let parts : IsInside store head.parts (at store head.parts) = subst (λ n. IsInside store n (at store head.parts)) c.if-parts-head.true (c.requires.known.are head.parts parts_in) in
+    let next : IsInside store head.next (at store head.next) = subst (λ n. IsInside store n (at store head.next)) c.if-next-head.true (c.requires.known.are head.next next_in) in
+    let a = c.if-is_inside.ensures in let b = c.if-is_inside.true in
+    inside_same store c.args.number head.parts head.next head.form head.text.now head.place c.requires.number_in c.in-Some.ensures.is parts next ?
+
+pub returns-clause-inside : goal.returns-clause-inside
+returns-clause-inside c =
+    let a = c.add.ensures.holds in let b = c.in_ok-text.ensures.items in let d = c.deref.ensures.value in let e = c.inside_form-form.ensures in ?
