@@ -91,7 +91,8 @@ fn inside_trees(
     let form = inside_form(head.form);
     let place = head.place;
     let text = Vec::from_slice(alloc, head.text)?;
-    store.add(form, &text, place, parts, next)
+    let made = store.add(form, &text, place, parts, next)?;
+    Ok(made)
 }
 
 /// The numbers of a store's trees as they are inside. So no tree is made twice.
