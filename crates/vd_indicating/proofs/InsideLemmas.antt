@@ -1,7 +1,5 @@
 -- Subtypes as they are inside a process or a function.
-use Rattle.std.proofs.Common.{◌≡◌, ◌+◌, ◌<◌, ◌≤◌, List, [], ◌∷◌, ◌++◌, ap, arith, inl, inr, length, length-append, map, None, Option, Some, refl, slice_index_or, subst, sym, ℕ, ◌∙◌}
-use Rattle.std.proofs.lemmas.Bool.{cases_lt}
-use Rattle.std.proofs.lemmas.List.{get_or_append_left, get_or_push}
+use Rattle.std.proofs.Common.{◌≡◌, ◌≤◌, List, [], ◌∷◌, ap, arith, length, map, None, Option, Some, refl, slice_index_or, subst, sym, ℕ, ◌∙◌}
 use Rattle.vd_bytes.specs.declared.places.Place.{Place}
 use Rattle.vd_composites.specs.Subtypes.{Records, and_more}
 use Rattle.vd_composites.specs.declared.ranges.Bounds.{Bounds}
@@ -9,13 +7,12 @@ use Rattle.vd_composites.specs.declared.scalars.ScalarSubtype.{ScalarSubtype}
 use Rattle.vd_environments.specs.Environments.{Field, Indicated, OfFields, all_made_inside, and_make, made_inside}
 use Rattle.vd_forest.specs.Forest.{Forest, more}
 use Rattle.vd_forest.specs.Store.{Extends, Holds, at}
-use Rattle.vd_indicated.specs.Indicated.{all_but_first, array_indicated, fields_in, first_indicated, indicated_in, made_of, static_of, texts_in}
+use Rattle.vd_indicated.specs.Indicated.{all_but_first, array_indicated, fields_in, first_indicated, made_of, static_of, texts_in}
 use Rattle.vd_indicated.specs.declared.forms.IndicatedForm.{IndicatedForm}
 use Rattle.vd_indicated.specs.declared.forms.IndicatedForm.TheVariants as form
 use Rattle.vd_indicated.specs.declared.statics.StaticSort.{StaticSort}
 use Rattle.vd_indicating.specs.Inside.{AreInside, IsInside, field_inside, form_inside, inside_of, sort_inside}
-use Rattle.vd_indicating.specs.Made.{Indicates}
-use Rattle.vd_meaning.specs.Declarations.{makes_of, record_type, subtypes_of}
+use Rattle.vd_meaning.specs.Declarations.{makes_of, subtypes_of}
 
 -- ---- fields
 
@@ -94,31 +91,4 @@ table_kept table fs gs grown known = record {
       let old : number ≤ length fs = omega (arith, known.within) in
       subst (IsInside gs (slice_index_or table number 0)) (sym (grown.keeps number old))
       (inside_kept fs gs (slice_index_or table number 0) (at fs number) grown (known.are number within));
-}
-
--- one number more
-pub table_more : (table : List ℕ) (made : ℕ) (fs gs : List (Forest IndicatedForm)) (last : ℕ) → Extends fs gs → AreInside table fs
-    → last ≡ length table → last ≤ length fs → IsInside gs made (at fs last) → AreInside (table ++ made ∷ []) gs
-table_more table made fs gs last grown before end within is =
-    let known = table_kept table fs gs grown before in record {
-      within = omega (arith, known.within, grown.grows, length-append table (made ∷ []));
-      are = λ number h. elim (cases_lt number last) [
-        inl low ↦
-            let inside : number < length table = omega (arith, low, end) in
-            subst (λ n. IsInside gs n (at gs number)) (sym (get_or_append_left table (made ∷ []) 0 number inside)) (known.are number inside)
-        | inr high ↦
-            let same : number ≡ last = omega (arith, length-append table (made ∷ []), h, high, end) in
-            subst (λ n. IsInside gs (slice_index_or (table ++ made ∷ []) n 0) (at gs n)) (sym same)
-            (subst (λ n. IsInside gs n (at gs last)) (sym (get_or_push table made 0 last (sym end)))
-            (subst (IsInside gs made) (sym (grown.keeps last within)) is)) ];
-    }
-
--- the subtype that a number stands for
-pub inside_indicated : (fs gs : List (Forest IndicatedForm)) (number made : ℕ) → Extends fs gs → number ≤ length fs
-    → IsInside gs made (at gs number) → Indicates gs made (inside_of (indicated_in (at fs number)))
-inside_indicated fs gs number made grown within is = record {
-  within = is.within;
-  is =
-      ap first_indicated is.fields ∙ first_inside (fields_in (at gs number))
-      ∙ ap (λ f. inside_of (indicated_in f)) (grown.keeps number within);
 }

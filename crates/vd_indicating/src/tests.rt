@@ -5,6 +5,7 @@ ghost use Rattle.vd_forest.specs.Store.{Extends};
 
 use crate::arrays::array_of_any_bounds;
 use crate::constraints::narrowed;
+use crate::inside::InsideTable;
 use crate::parts::{field, literal};
 use crate::types::{enumeration, record_type};
 use std::alloc::AllocError;
@@ -67,7 +68,10 @@ fn literals_are_read(rt: HostRuntime) -> Result<(), Fail> {
     assert_eq!(rt; literals(&first).text(), b"red".as_slice());
     let others = field_of(&store.cursor(number), 1);
     assert_eq!(rt; index_literals(&others).next().text(), b"green".as_slice());
-    assert_eq!(rt; literals(&element(&others)).next().next().text(), b"blue".as_slice());
+    assert_eq!(rt;
+        literals(&element(&others)).next().next().text(),
+        b"blue".as_slice()
+    );
     Ok(())
 }
 
@@ -89,5 +93,18 @@ fn what_is_known_later_has_no_length(rt: HostRuntime) -> Result<(), Fail> {
     assert_eq!(rt; static_length(&others), None);
     let known = all_bounds(rt.alloc(), &store.cursor(number))?;
     assert_eq!(rt; known, StaticSort::never());
+    Ok(())
+}
+
+#[test]
+fn bounds_inside_are_known_from_the_text_alone(rt: HostRuntime) -> Result<(), Fail> {
+    let mut store = Store::new(rt.alloc());
+    let number = palettes(&mut store, StaticSort::always())?;
+    let mut table = InsideTable::new(rt.alloc());
+    let inside = table.inside(&mut store, number)?;
+    let again = table.inside(&mut store, inside)?;
+    assert_eq!(rt; again, inside, "what is inside isn't made again");
+    let known = all_bounds(rt.alloc(), &store.cursor(inside))?;
+    assert!(rt; known.is_local && !known.is_global);
     Ok(())
 }

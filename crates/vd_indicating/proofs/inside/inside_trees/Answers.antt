@@ -1,7 +1,6 @@
-use Rattle.std.proofs.Common.{◌≡◌, ◌∷◌, ◌<◌, ◌≤◌, List, Err, IfOk, Ok, ap, arith, length, refl, slice_index_or, subst, sym, ◌∙◌, ℕ}
-use Rattle.vd_forest.specs.Forest.{Forest, more}
+use Rattle.std.proofs.Common.{◌<◌, ap, arith, length, refl, slice_index_or, subst, ◌∙◌}
+use Rattle.vd_forest.specs.Forest.{more}
 use Rattle.vd_forest.specs.Store.{Holds, at}
-use Rattle.vd_indicated.specs.declared.forms.IndicatedForm.{IndicatedForm}
 use Rattle.vd_indicating.specs.Inside.{IsInside, form_inside}
 use Rattle.vd_indicating.proofs.InsideLemmas.{inside_added, inside_same}
 use Rattle.vd_indicating.proofs.inside.inside_trees.Goals as goal

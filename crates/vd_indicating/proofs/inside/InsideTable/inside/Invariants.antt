@@ -1,4 +1,4 @@
-use Rattle.std.proofs.Common.{ℕ, ◌+◌, ◌-◌, vec_len}
+use Rattle.std.proofs.Common.{◌+◌, ◌-◌, vec_len}
 use Rattle.vd_forest.specs.Store.{Extends}
 use Rattle.vd_indicating.specs.Inside.{AreInside}
 use Rattle.vd_indicating.proofs.inside.InsideTable.inside.Given as goal
