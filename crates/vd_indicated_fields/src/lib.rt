@@ -3,6 +3,8 @@
 
 pub mod fields;
 pub mod jumps;
+#[cfg(test)]
+mod tests;
 
 pub use fields::FieldTable;
 pub use jumps::Jump;
