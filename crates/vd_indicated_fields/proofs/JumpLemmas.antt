@@ -1,5 +1,5 @@
 -- Jumps after one another, and the tables of them.
-use Rattle.std.proofs.Common.{◌≡◌, ◌+◌, ◌-◌, ◌<◌, ◌≤◌, List, ap, arith, length, slice_index_or, subst, suc, sym, ℕ, ◌∙◌}
+use Rattle.std.proofs.Common.{◌≡◌, ◌+◌, ◌-◌, ◌<◌, ◌≤◌, List, ap, arith, length, slice_index_or, suc, sym, ℕ, ◌∙◌}
 use Rattle.vd_bytes.specs.declared.places.Place.{Place}
 use Rattle.vd_forest.specs.Forest.{Forest, more, next_of, skipped}
 use Rattle.vd_forest.specs.Store.{Extends, at}

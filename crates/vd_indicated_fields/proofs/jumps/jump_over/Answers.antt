@@ -1,5 +1,4 @@
-use Rattle.std.proofs.Common.{◌≡◌, ◌-◌, ◌<◌, ◌≤◌, arith, length, refl, slice_index_or, ◌∙◌}
-use Rattle.vd_forest.specs.Store.{at}
+use Rattle.std.proofs.Common.{◌≡◌, ◌-◌, ◌≤◌, arith, refl, slice_index_or, ◌∙◌}
 use Rattle.vd_indicated_fields.specs.Jumps.{no_jump}
 use Rattle.vd_indicated_fields.proofs.JumpLemmas.{gone, nothing_left}
 use Rattle.vd_indicated_fields.proofs.jumps.jump_over.Goals as goal

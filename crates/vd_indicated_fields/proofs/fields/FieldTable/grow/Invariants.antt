@@ -1,4 +1,4 @@
-use Rattle.std.proofs.Common.{ℕ, ◌+◌, ◌-◌, vec_len}
+use Rattle.std.proofs.Common.{◌+◌, ◌-◌, vec_len}
 use Rattle.vd_indicated_fields.specs.Jumps.{AreJumps}
 use Rattle.vd_indicated_fields.proofs.fields.FieldTable.grow.Given as goal
 
