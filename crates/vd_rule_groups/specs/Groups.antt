@@ -1,5 +1,5 @@
 -- The rules that need types, values and static names, in groups, each of which one walk can ask. All groups see the same states.
-use Rattle.std.specs.Prelude.{◌≡◌, ℕ, List, [], not, Bool, if◌then◌else◌}
+use Rattle.std.specs.Prelude.{ℕ, List, [], not, Bool, if◌then◌else◌}
 use Rattle.std.specs.List.{filter}
 use Rattle.vd_bytes.specs.declared.answers.Refused.{Refused}
 use Rattle.vd_bytes.specs.declared.places.Place.{Place}

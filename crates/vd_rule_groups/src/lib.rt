@@ -2,5 +2,6 @@
 #![tactic(auto)]
 
 pub mod firsts;
+pub mod laws;
 
 pub use firsts::{Firsts, nothing_refused, together};
