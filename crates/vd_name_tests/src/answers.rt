@@ -15,6 +15,7 @@ use vd_grammar19::read19;
 use vd_least::lesser;
 use vd_lex::lex19;
 use vd_name_resolution::resolve_names;
+use vd_name_rules::{name_refusals, view_port_refusals};
 use vd_operator_rules::operator_refusals;
 use vd_resolved::Tree;
 use vd_rule_groups::{Firsts, together};
@@ -29,7 +30,14 @@ fn first_by_groups(alloc: Global, design: &Tree) -> Result<Firsts, AllocError> {
     let operators = operator_refusals(alloc, Revision::V2019, design)?;
     let foreign = foreign_refusals(alloc, Revision::V2019, design)?;
     let bodies = body_refusals(alloc, Revision::V2019, design)?;
-    Ok(together(together(assignments, operators), together(foreign, bodies)))
+    let names = name_refusals(alloc, Revision::V2019, design)?;
+    let ports = view_port_refusals(alloc, Revision::V2019, design)?;
+    let of_functions = together(foreign, bodies);
+    let of_names = together(names, ports);
+    Ok(together(
+        together(assignments, operators),
+        together(of_functions, of_names),
+    ))
 }
 
 /// What is refused of units first: of their names, or else of their rules.
