@@ -1,5 +1,5 @@
 -- Lists that are compared side by side. No name has a dash, so that a caller can name each in `#[tactic(auto, using(..))]`.
-use Rattle.std.proofs.Common.{◌≡◌, ◌<◌, ◌≤◌, ◌-◌, Bool, List, [], ap, ap₂, arith, drop, false, length, nat_eq, refl, suc, sym, true, zero, ℕ, ◌&&◌, ◌∙◌, ◌∷◌}
+use Rattle.std.proofs.Common.{◌≡◌, ◌<◌, ◌≤◌, ◌-◌, Bool, List, [], ap, ap₂, arith, drop, length, nat_eq, refl, suc, sym, true, zero, ℕ, ◌&&◌, ◌∙◌, ◌∷◌}
 use Rattle.std.proofs.lemmas.Bool.Decides.{nat_tests}
 use Rattle.std.proofs.lemmas.List.{drop_all, length-drop}
 use Rattle.vd_body_likeness.specs.Items.{first_trees, items_of}

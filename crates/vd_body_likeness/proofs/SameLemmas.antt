@@ -1,13 +1,12 @@
 -- Forests that are still to be compared. No name has a dash, so that a caller can name each in `#[tactic(auto, using(..))]`.
-use Rattle.std.proofs.Common.{◌≡◌, ◌+◌, ◌*◌, ◌<◌, Bool, List, [], ap, false, refl, sym, true, ℕ, ◌&&◌, ◌++◌, ◌∙◌, ◌∷◌, arith}
+use Rattle.std.proofs.Common.{◌≡◌, ◌+◌, Bool, List, [], ap, false, refl, sym, true, ℕ, ◌&&◌, ◌++◌, ◌∙◌, ◌∷◌, arith}
 use Rattle.std.proofs.lemmas.List.Folds.{list_all-append}
 use Rattle.std.proofs.lemmas.List.Sums.{sum_by-append}
 use Rattle.std.specs.List.{list_all, sum_by}
-use Rattle.vd_body_likeness.specs.Comparing.{is_left_same, work, work_left}
+use Rattle.vd_body_likeness.specs.Comparing.{is_left_same, work}
 use Rattle.vd_body_likeness.specs.declared.same.Both.{Both}
 use Rattle.vd_body_likeness.specs.declared.same.Compared.{Compared}
 use Rattle.vd_body_likeness.specs.declared.same.Compared.TheVariants.{Different, Further, Nothing}
-use Rattle.vd_forest.specs.Forest.{Forest, more, nothing, size}
 use Rattle.vd_value_rules.specs.Bodies.{say_same}
 
 module _ (ps : List (ℕ × ℕ)) where

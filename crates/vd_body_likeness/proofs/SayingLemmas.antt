@@ -1,13 +1,13 @@
 -- What trees are called by and mean, from their nodes. No name has a dash, so that a caller can name each in `#[tactic(auto, using(..))]`.
-use Rattle.std.proofs.Common.{◌≡◌, List, None, Option, Some, [], ap, refl, suc, sym, zero, ℕ, ◌∙◌, ◌∷◌}
+use Rattle.std.proofs.Common.{◌≡◌, List, None, Option, [], ap, refl, suc, sym, zero, ℕ, ◌∙◌}
 use Rattle.vd_body_likeness.specs.Words.{said}
 use Rattle.vd_body_likeness.specs.declared.identified.Saying.{Saying}
 use Rattle.vd_bytes.specs.declared.places.Place.{Place}
-use Rattle.vd_forest.specs.Forest.{Forest, more, next_of, nothing, skipped}
+use Rattle.vd_forest.specs.Forest.{Forest, more, nothing, skipped}
 use Rattle.vd_meaning.specs.Brackets.{or_else}
 use Rattle.vd_meaning.specs.Facets.{Meaning, last_of, nth}
 use Rattle.vd_meaning.specs.Kinds
-use Rattle.vd_meaning.specs.Meanings.{meaning_of, meanings, node_meaning}
+use Rattle.vd_meaning.specs.Meanings.{meaning_of, meanings}
 use Rattle.vd_meaning.specs.Tables.{Table}
 use Rattle.vd_resolved.specs.declared.node.Resolved.{Resolved}
 use Rattle.vd_body_likeness.specs.declared.identified.Saying.TheVariants as saying

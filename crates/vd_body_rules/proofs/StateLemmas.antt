@@ -1,9 +1,8 @@
 -- What declarations make known of the texts of functions, and that they make known nothing else of them. No name has a dash, so that a caller
 -- can name each in `#[tactic(auto, using(..))]`.
-use Rattle.std.proofs.Common.{◌≡◌, Bool, Err, List, Ok, [], ap, ap₂, false, refl, sym, true, ℕ, ◌++◌, ◌∙◌, ◌∷◌}
+use Rattle.std.proofs.Common.{◌≡◌, Bool, Err, List, Ok, [], ap, false, refl, sym, true, ℕ, ◌∙◌, ◌∷◌}
 use Rattle.vd_body_rules.proofs.TextLemmas.{behind_both}
 use Rattle.vd_body_rules.specs.Texts.{behind, texted, texts_by, texts_declared}
-use Rattle.vd_bytes.specs.declared.places.Place.{Place}
 use Rattle.vd_composites.specs.Composites.{Value}
 use Rattle.vd_environments.specs.Environments.{Static, with_entry}
 use Rattle.vd_environments.specs.Got.{Got}
@@ -12,9 +11,9 @@ use Rattle.vd_forms.specs.declared.form.Form.{Form}
 use Rattle.vd_meaning.specs.Meanings.{made}
 use Rattle.vd_meaning.specs.Names.{number_or}
 use Rattle.vd_resolved.specs.declared.node.Resolved.{Resolved}
-use Rattle.vd_value_rules.specs.Declaring.{AFunction, AGenericFunction, APackage, Constants, Declaring, GenericConstants, InOrder, SomeParameters, SomePorts, SomeSignals, Variables, ViewPorts, constants_known, declaring, parameters_known, unit_declared_by, units_declared, with_package}
+use Rattle.vd_value_rules.specs.Declaring.{AFunction, AGenericFunction, APackage, Constants, Declaring, GenericConstants, InOrder, SomeParameters, SomePorts, SomeSignals, Variables, ViewPorts, declaring, parameters_known, unit_declared_by, units_declared, with_package}
 use Rattle.vd_value_rules.specs.Designs.{Design}
-use Rattle.vd_value_rules.specs.Knowledge.{Known, TwoIndicated, constant_of, constants_of, indicated_twice, later_objects, meaning_at, object_known, parts_at, signals_known, view_port_indicated}
+use Rattle.vd_value_rules.specs.Knowledge.{Known, TwoIndicated, constant_of, constants_of, indicated_twice, later_objects, meaning_at, parts_at, signals_known, view_port_indicated}
 use Rattle.vd_value_rules.specs.Standings.{known_down}
 use Rattle.vd_values.specs.declared.scalar.Scalar.{Scalar}
 use Rattle.vd_forms.specs.declared.form.Form.TheVariants as form

@@ -1,5 +1,5 @@
 -- What the walk comes to is what the group refuses. No name has a dash, so that a caller can name each in `#[tactic(auto, using(..))]`.
-use Rattle.std.proofs.Common.{◌≡◌, Bool, List, None, Option, [], ap, ap₂, append_assoc, false, length, refl, sym, take, true, ℕ, ◌++◌, ◌∙◌, ◌∷◌}
+use Rattle.std.proofs.Common.{◌≡◌, Bool, List, None, Option, [], ap, ap₂, append_assoc, false, length, refl, sym, true, ℕ, ◌++◌, ◌∙◌, ◌∷◌}
 use Rattle.std.proofs.Math.Seq.{take-append_seam}
 use Rattle.std.specs.List.{filter}
 use Rattle.vd_body_rules.proofs.StateLemmas.{along_declares, down_keeps}
@@ -29,7 +29,7 @@ use Rattle.vd_value_rules.specs.Judging.{refused_if}
 use Rattle.vd_value_rules.specs.Knowledge.{meaning_at}
 use Rattle.vd_value_rules.specs.Rules.{is_of_names}
 use Rattle.vd_value_rules.specs.Standings.{State, beginning}
-use Rattle.vd_walking.specs.Walking.{Walked, followed, through, walked}
+use Rattle.vd_walking.specs.Walking.{Walked, followed, walked}
 use Rattle.vd_body_rules.specs.declared.declaring.Declares.TheVariants as declares
 use Rattle.vd_forms.specs.declared.form.Form.TheVariants as form
 

@@ -1,6 +1,5 @@
 -- The texts of functions that are known at a place, in the order in which they came: of a function the last one counts.
 use Rattle.std.specs.Prelude.{List, None, Option, Some, [], map, ℕ, ◌++◌, ◌≡◌, ◌∷◌}
-use Rattle.std.specs.Option.{unwrap_or}
 use Rattle.vd_body_rules.specs.declared.declaring.Declares.{Declares}
 use Rattle.vd_body_rules.specs.declared.texts.Entry.{Entry}
 use Rattle.vd_environments.specs.Environments.{with_entry}

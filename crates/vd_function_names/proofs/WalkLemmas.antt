@@ -1,5 +1,5 @@
 -- What the walk comes to is what the group refuses. No name has a dash, so that a caller can name each in `#[tactic(auto, using(..))]`.
-use Rattle.std.proofs.Common.{◌≡◌, Bool, List, None, Option, Some, [], ap, ap₂, false, refl, sym, true, ℕ, ◌++◌, ◌∙◌}
+use Rattle.std.proofs.Common.{◌≡◌, Bool, List, None, Option, Some, [], ap, false, refl, sym, true, ℕ, ◌∙◌}
 use Rattle.std.specs.Prelude.{if◌then◌else◌}
 use Rattle.std.specs.List.{filter}
 use Rattle.vd_bytes.specs.declared.answers.Refused.{Refused}
@@ -8,11 +8,11 @@ use Rattle.vd_forest.specs.Forest.{Forest, more, nothing}
 use Rattle.vd_forms.specs.declared.form.Form.{Form}
 use Rattle.vd_function_names.specs.Functions.{among, is_function, names_walker}
 use Rattle.vd_least.proofs.OrderLaws.{lesser_brackets}
-use Rattle.vd_least.specs.Least.{Judge, all_broken, least, least_of, lesser}
+use Rattle.vd_least.specs.Least.{Judge, least, least_of, lesser}
 use Rattle.vd_resolved.specs.Trees.{ResolvedTree}
 use Rattle.vd_resolved.specs.declared.node.Resolved.{Resolved}
 use Rattle.vd_rule_groups.proofs.WalkLemmas.{firsts_of_rules_alone, least_alike}
-use Rattle.vd_rule_groups.specs.Groups.{broken_by, firsts_by, judge_by, name_in_function, names_in_functions}
+use Rattle.vd_rule_groups.specs.Groups.{firsts_by, judge_by, name_in_function, names_in_functions}
 use Rattle.vd_rule_groups.specs.declared.firsts.Firsts.{Firsts}
 use Rattle.vd_trees.specs.declared.revision.Revision.{Revision}
 use Rattle.vd_value_rules.specs.Designs.{Design, design_of}
@@ -20,7 +20,7 @@ use Rattle.vd_value_rules.specs.Names.{broken_in_function, is_foreign}
 use Rattle.vd_value_rules.specs.Judging.{refused_if}
 use Rattle.vd_value_rules.specs.Rules.{is_of_names}
 use Rattle.vd_value_rules.specs.Reaching.{reached}
-use Rattle.vd_value_rules.specs.Standings.{State, beginning, locals_down, state_along, state_down}
+use Rattle.vd_value_rules.specs.Standings.{State, beginning, locals_down}
 use Rattle.vd_walking.specs.Walking.{Entry, Inside, Walked, followed, through, walked}
 use Rattle.vd_forms.specs.declared.form.Form.TheVariants as form
 

@@ -1,4 +1,4 @@
-use Rattle.std.proofs.Common.{Option, Some, [], ap, cond, nat_eq, subst, sym, ◌++◌, ◌∙◌, ◌≡◌, ◌∷◌}
+use Rattle.std.proofs.Common.{Some, [], ap, cond, nat_eq, subst, sym, ◌++◌, ◌∙◌, ◌≡◌, ◌∷◌}
 use Rattle.std.proofs.Common.{arith}
 use Rattle.std.proofs.lemmas.Grind.{common_steps}
 use Rattle.std.specs.HashMap.{get}
