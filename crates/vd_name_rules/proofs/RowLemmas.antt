@@ -1,5 +1,5 @@
 -- What the parts of a node are to it, in the states of the rules and in the smaller ones.
-use Rattle.std.proofs.Common.{◌≡◌, ℕ, zero, suc, Bool, true, false, cond, List, [], ◌∷◌, Option, Some, None, refl, sym, ap, ◌∙◌}
+use Rattle.std.proofs.Common.{◌≡◌, ℕ, zero, suc, Bool, true, false, cond, List, [], ◌∷◌, refl}
 use Rattle.vd_environments.specs.Environments.{Env}
 use Rattle.vd_forest.specs.Forest.{Forest, more, nothing}
 use Rattle.vd_forms.specs.declared.form.Form.{Form}

@@ -1,5 +1,5 @@
 -- What names break in the states of the rules, they break in the smaller ones.
-use Rattle.std.proofs.Common.{◌≡◌, ◌++◌, ℕ, zero, suc, Bool, true, false, cond, not, List, [], ◌∷◌, Option, Some, None, refl, sym, ap, ap₂, ◌∙◌}
+use Rattle.std.proofs.Common.{◌≡◌, ◌++◌, suc, Bool, true, false, not, Option, refl, sym, ap, ap₂, ◌∙◌}
 use Rattle.std.specs.List.{filter}
 use Rattle.vd_bytes.specs.declared.answers.Refused.{Refused}
 use Rattle.vd_bytes.specs.declared.places.Place.{Place}
@@ -11,7 +11,6 @@ use Rattle.vd_name_rules.specs.Coming.{all_of, coming_by, sort_of}
 use Rattle.vd_name_rules.specs.Judges.{name_judge, used, used_at}
 use Rattle.vd_name_rules.specs.Rows.{row_of}
 use Rattle.vd_name_rules.specs.declared.coming.Coming.{Coming}
-use Rattle.vd_name_rules.specs.declared.coming.Sort.{Sort}
 use Rattle.vd_name_rules.specs.declared.coming.Sort.TheVariants.{Read}
 use Rattle.vd_port_modes.specs.Source.{Source, design_in}
 use Rattle.vd_resolved.specs.Trees.{ResolvedTree}

@@ -1,9 +1,9 @@
 -- What is asked of ports with views. No name has a dash, so that a caller can name each in `#[tactic(auto, using(..))]`.
-use Rattle.std.proofs.Common.{◌≡◌, ◌&&◌, ℕ, zero, suc, Bool, true, false, List, [], ◌∷◌, Option, Some, None, refl, sym, ap, ap₂, ◌∙◌}
+use Rattle.std.proofs.Common.{◌≡◌, ◌&&◌, ℕ, Bool, true, false, [], Option, None, refl, sym, ap, ◌∙◌}
 use Rattle.std.specs.List.{filter}
 use Rattle.vd_bytes.specs.declared.answers.Refused.{Refused}
 use Rattle.vd_bytes.specs.declared.places.Place.{Place}
-use Rattle.vd_forest.specs.Forest.{Forest, parts_of, skipped}
+use Rattle.vd_forest.specs.Forest.{Forest, skipped}
 use Rattle.vd_forms.specs.declared.form.Form.{Form}
 use Rattle.vd_least.specs.Least.{least}
 use Rattle.vd_meaning.specs.Facets.{nth}
@@ -24,8 +24,7 @@ use Rattle.vd_value_rules.specs.Designs.{Design, design_of}
 use Rattle.vd_value_rules.specs.Judging.{refused_if}
 use Rattle.vd_value_rules.specs.Knowledge.{meaning_at}
 use Rattle.vd_value_rules.specs.Names.{are_other_types, broken_view_port, subtype_mark, view_type}
-use Rattle.vd_value_rules.specs.Standings.{State, beginning}
-use Rattle.vd_value_rules.specs.Rules.{is_of_names}
+use Rattle.vd_value_rules.specs.Standings.{beginning}
 use Rattle.vd_forms.specs.declared.form.Form.TheVariants as form
 
 pub declared_part : (t : Table) (k : ℕ) (f : Forest Resolved) → declared_first t (skipped k f) ≡ (nth k (meanings t f)).declaration

@@ -1,5 +1,5 @@
 -- What trees are to the node above them, as far as the names in them are used: less than their standing says, since here no place gives bounds.
-use Rattle.std.specs.Prelude.{false, suc, true, zero, ℕ}
+use Rattle.std.specs.Prelude.{false, true}
 use Rattle.vd_forest.specs.Forest.{Forest, more, nothing}
 use Rattle.vd_meaning.specs.Tables.{FunctionRole, Role, role_of}
 use Rattle.vd_name_rules.specs.declared.coming.Coming.{Coming}

@@ -1,5 +1,5 @@
 -- What names break where they stand, in the smaller states: rules of names, and the other rules.
-use Rattle.std.specs.Prelude.{Bool, List, [], false, not, true, ℕ}
+use Rattle.std.specs.Prelude.{Bool, List, [], false, not, true}
 use Rattle.vd_bytes.specs.declared.answers.Refused.{Refused}
 use Rattle.vd_bytes.specs.declared.places.Place.{Place}
 use Rattle.vd_forest.specs.Forest.{Forest}

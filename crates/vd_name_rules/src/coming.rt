@@ -235,6 +235,13 @@ pub fn coming_by(
         Row::Guarded => guarded(own),
         Row::Choosing => associated_parts(own),
         Row::Naming => formal_or(own, all_of(Sort::Read)),
-        _ => coming_passed(row, interfaces, own, node, parts),
+        Row::Reading
+        | Row::Brackets
+        | Row::Generics
+        | Row::Ports
+        | Row::EntityInstance
+        | Row::PackageInstance
+        | Row::FunctionInstance
+        | Row::Operands => coming_passed(row, interfaces, own, node, parts),
     }
 }

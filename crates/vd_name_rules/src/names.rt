@@ -15,9 +15,9 @@ use vd_bytes::{Place, Refused};
 use vd_forest::Opened;
 use vd_forms::Form;
 use vd_least::{Judging, find_least};
+use vd_port_modes::Interfaces;
 use vd_port_modes::places::{may_be_assigned, names_view_port, reads_out};
 use vd_port_modes::reaching::{Reached, reached_by};
-use vd_port_modes::Interfaces;
 use vd_resolved::{Resolved, Tree};
 use vd_rule_groups::Firsts;
 use vd_trees::Revision;
@@ -115,13 +115,7 @@ impl<'i, 't> Judging<Resolved, Coming> for NameRules<'i, 't> {
         node: &Opened<'_, Resolved>,
     ) -> Result<Coming, AllocError> {
         let row = row_of(node.form.form);
-        Ok(coming_by(
-            row,
-            self.interfaces,
-            coming.first,
-            &node.form,
-            &node.parts,
-        ))
+        Ok(coming_by(row, self.interfaces, coming.first, &node.form, &node.parts))
     }
 
     fn along(
@@ -135,11 +129,7 @@ impl<'i, 't> Judging<Resolved, Coming> for NameRules<'i, 't> {
 }
 
 /// The least refusals of names: 308, and of 401 and 402.
-pub fn name_refusals(
-    alloc: Global,
-    revision: Revision,
-    tree: &Tree,
-) -> Result<Firsts, AllocError>
+pub fn name_refusals(alloc: Global, revision: Revision, tree: &Tree) -> Result<Firsts, AllocError>
     ensures { IfOk result (λ found. found ≡ firsts_by names_used revision tree.now) }
 {
     let interfaces = Interfaces::of(alloc, revision, tree)?;

@@ -35,49 +35,49 @@ fn operands(form: Form) -> Row
     ensures { result ≡ row_of_operator form }
 {
     match form {
-        Form::Condition
-        | Form::Nand
-        | Form::Nor
-        | Form::And
-        | Form::Or
-        | Form::Xor
-        | Form::Xnor
-        | Form::Equal
-        | Form::Unequal
-        | Form::Less
-        | Form::AtMost
-        | Form::Greater
-        | Form::AtLeast
-        | Form::MatchEqual
-        | Form::MatchUnequal
-        | Form::MatchLess
-        | Form::MatchAtMost
-        | Form::MatchGreater
-        | Form::MatchAtLeast
-        | Form::ShiftLeftLogical
-        | Form::ShiftRightLogical
-        | Form::ShiftLeftArithmetic
-        | Form::ShiftRightArithmetic
-        | Form::RotateLeft
-        | Form::RotateRight
-        | Form::Identity
-        | Form::Negation
-        | Form::Add
-        | Form::Subtract
-        | Form::Concatenate
-        | Form::Multiply
-        | Form::Divide
-        | Form::Modulo
-        | Form::Remainder
-        | Form::Absolute
-        | Form::Not
-        | Form::AndReduction
-        | Form::OrReduction
-        | Form::XorReduction
-        | Form::XnorReduction
-        | Form::NandReduction
-        | Form::NorReduction
-        | Form::Power => Row::Operands,
+        Form::Condition => Row::Operands,
+        Form::Nand => Row::Operands,
+        Form::Nor => Row::Operands,
+        Form::And => Row::Operands,
+        Form::Or => Row::Operands,
+        Form::Xor => Row::Operands,
+        Form::Xnor => Row::Operands,
+        Form::Equal => Row::Operands,
+        Form::Unequal => Row::Operands,
+        Form::Less => Row::Operands,
+        Form::AtMost => Row::Operands,
+        Form::Greater => Row::Operands,
+        Form::AtLeast => Row::Operands,
+        Form::MatchEqual => Row::Operands,
+        Form::MatchUnequal => Row::Operands,
+        Form::MatchLess => Row::Operands,
+        Form::MatchAtMost => Row::Operands,
+        Form::MatchGreater => Row::Operands,
+        Form::MatchAtLeast => Row::Operands,
+        Form::ShiftLeftLogical => Row::Operands,
+        Form::ShiftRightLogical => Row::Operands,
+        Form::ShiftLeftArithmetic => Row::Operands,
+        Form::ShiftRightArithmetic => Row::Operands,
+        Form::RotateLeft => Row::Operands,
+        Form::RotateRight => Row::Operands,
+        Form::Identity => Row::Operands,
+        Form::Negation => Row::Operands,
+        Form::Add => Row::Operands,
+        Form::Subtract => Row::Operands,
+        Form::Concatenate => Row::Operands,
+        Form::Multiply => Row::Operands,
+        Form::Divide => Row::Operands,
+        Form::Modulo => Row::Operands,
+        Form::Remainder => Row::Operands,
+        Form::Absolute => Row::Operands,
+        Form::Not => Row::Operands,
+        Form::AndReduction => Row::Operands,
+        Form::OrReduction => Row::Operands,
+        Form::XorReduction => Row::Operands,
+        Form::XnorReduction => Row::Operands,
+        Form::NandReduction => Row::Operands,
+        Form::NorReduction => Row::Operands,
+        Form::Power => Row::Operands,
         _ => Row::Reading,
     }
 }

@@ -51,7 +51,6 @@ fn type_of_mark(interfaces: &Interfaces<'_>, mark: Option<DeclId>) -> Option<Dec
 }
 
 /// The type of the subtype of a port.
-#[tactic(auto, using(crate::proofs::ViewLemmas::declared_part, crate::proofs::ViewLemmas::declared_inside))]
 fn subtype_mark(interfaces: &Interfaces<'_>, parts: &Cursor<'_, Resolved>) -> Option<DeclId>
     ensures { result ≡ mark_of_subtype (design_in interfaces.now) parts.now }
 {
@@ -60,7 +59,6 @@ fn subtype_mark(interfaces: &Interfaces<'_>, parts: &Cursor<'_, Resolved>) -> Op
 }
 
 /// The type of the view of a port.
-#[tactic(auto, using(crate::proofs::ViewLemmas::declared_part))]
 fn view_type(interfaces: &Interfaces<'_>, parts: &Cursor<'_, Resolved>) -> Option<DeclId>
     ensures { result ≡ type_of_view (design_in interfaces.now) parts.now }
 {
@@ -78,7 +76,6 @@ fn are_other_types(one: Option<DeclId>, other: Option<DeclId>) -> bool
 }
 
 /// Whether a part is there.
-#[tactic(auto, using(crate::proofs::ViewLemmas::present_part))]
 fn has_part(interfaces: &Interfaces<'_>, number: u32, parts: &Cursor<'_, Resolved>) -> bool
     ensures { result ≡ (meaning_at (design_in interfaces.now) number parts.now).is_present }
 {
@@ -119,11 +116,7 @@ impl<'i, 't> Judging<Resolved, ()> for ViewRules<'i, 't> {
         _state: &(),
         node: &Opened<'_, Resolved>,
     ) -> Result<Option<Refused>, AllocError> {
-        Ok(broken_view_port(
-            self.interfaces,
-            node.form.form,
-            &node.parts,
-        ))
+        Ok(broken_view_port(self.interfaces, node.form.form, &node.parts))
     }
 
     fn down(
