@@ -1,5 +1,5 @@
 -- How the logic stores what the tables are made of, so that it can tell two of them apart.
-use Rattle.std.specs.Prelude.{List, refl}
+use Rattle.std.specs.Prelude.{refl}
 use Rattle.std.specs.Coded.{Coded, code_by, coded×, coded_list}
 use Rattle.vd_declarations.specs.contracts.declarations.Declaration as declared
 use Rattle.vd_forest.specs.Code.{coded_forest}

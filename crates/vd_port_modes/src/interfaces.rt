@@ -146,12 +146,7 @@ fn mark_by(views: &[ListedView], copies: &[Copies], found: Option<Found>) -> Opt
 }
 
 /// The mode of an element of a view, where the view is found at all.
-fn mode_by(
-    views: &[ListedView],
-    copies: &[Copies],
-    found: Option<Found>,
-    name: &[u8],
-) -> PortMode
+fn mode_by(views: &[ListedView], copies: &[Copies], found: Option<Found>, name: &[u8]) -> PortMode
     ensures { (n : ℕ) → read_mode result ≡ element_mode (elements_of (view_found views.now copies.now n found)) name.now }
 {
     match found {

@@ -29,7 +29,11 @@ fn at_fields(interfaces: &Interfaces<'_>, from: Oriented, names: &[&[u8]]) -> Or
 }
 
 /// What mode or view a port has, or the part of it that is named.
-fn oriented_port(interfaces: &Interfaces<'_>, reached: &Reached<'_>, number: DeclId) -> Option<Oriented>
+fn oriented_port(
+    interfaces: &Interfaces<'_>,
+    reached: &Reached<'_>,
+    number: DeclId,
+) -> Option<Oriented>
     ensures { read_oriented_some result ≡ port_is_oriented (design_in interfaces.now) (read_reached reached.now) number }
 {
     match class_of(interfaces.declarations(), number.number()) {
