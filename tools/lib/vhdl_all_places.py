@@ -4,7 +4,7 @@ from vhdl_parser import Parser
 from vhdl_tokens import Node
 
 # calls that make no node of their own, and those whose node begins where they do
-PLAIN = {"now", "kind", "fail", "take", "has", "newer", "separated", "interfaces", "ended", "elements", "is_bracketed"}
+PLAIN = {"selected_waves", "now", "kind", "fail", "take", "has", "newer", "separated", "interfaces", "ended", "elements", "is_bracketed"}
 WHOLE = {"main", "declaration"}
 
 # how many tokens stand in front of the first part of a node

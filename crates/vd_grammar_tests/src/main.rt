@@ -4,13 +4,12 @@
 
 mod answers;
 mod showing;
-mod texts;
 
-use crate::answers::{LONGEST, answered};
+use crate::answers::answered;
 use crate::showing::show_tree;
-use crate::texts::{Text, texts_of};
 use anyhow::bail;
 use std::{env, fs};
+use vd_test_texts::{LONGEST, Text, texts_of};
 use vd_trees::Revision;
 
 /// Says which texts of a file are answered otherwise than stands in front of them, and how many there are.

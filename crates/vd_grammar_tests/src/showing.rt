@@ -2,7 +2,6 @@
 
 ghost use Rattle.std.specs.Prelude.{◌<◌, ◌≤◌, length};
 
-use crate::answers::LONGEST;
 use anyhow::bail;
 use std::alloc::Global;
 use vd_directives::plain::plain;
@@ -10,6 +9,7 @@ use vd_forest::Cursor;
 use vd_forms::Form;
 use vd_grammar19::read19;
 use vd_lex::lex19;
+use vd_test_texts::LONGEST;
 
 /// A forest, and how far in it stands.
 #[derive(Drop)]

@@ -1660,8 +1660,8 @@ case_458_3 =
     ∷ node form.SelectedName 160 124 (leaf form.Identifier 160 124 (codes "bit") ∷ []) ∷ node form.DeclarativePart 160 131 []
     ∷ node form.Statements 160 137 (node form.ReturnStatement 160 137 (node form.Name 160 144 (leaf form.Identifier 160 144 (codes "y") ∷ []) ∷ []) ∷ [])
     ∷ node form.FunctionClosing 160 150 (node form.Absent 160 150 [] ∷ node form.Absent 160 150 [] ∷ []) ∷ []) ∷ [])
-    ∷ node form.StatementPart 162 6
-    (node form.SelectedSignalAssignment 162 6
+    ∷ node form.StatementPart 162 1
+    (node form.SelectedSignalAssignment 162 1
     (node form.Name 162 6 (leaf form.Identifier 162 6 (codes "i") ∷ []) ∷ node form.Absent 162 15 []
     ∷ node form.Name 162 15 (leaf form.Identifier 162 15 (codes "b") ∷ []) ∷ node form.Absent 162 20 []
     ∷ node form.SelectedWaveform 162 20 (leaf form.Letter 162 20 (codes "0") ∷ node form.Others 162 29 [] ∷ [])

@@ -1,0 +1,5 @@
+pub mod ItemLemmas
+pub mod LikenessLemmas
+pub mod SameLemmas
+pub mod SayingLemmas
+pub mod WordLemmas

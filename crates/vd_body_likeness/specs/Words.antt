@@ -1,0 +1,58 @@
+-- The identifiers and literals of a list, and what the first of some trees is called by.
+use Rattle.std.specs.Prelude.{List, None, Option, Some, [], if◌then◌else◌, ℕ, ◌++◌, ◌∷◌}
+use Rattle.vd_body_likeness.specs.declared.identified.Saying.{Saying}
+use Rattle.vd_finding.specs.Finding.{Finder}
+use Rattle.vd_function_names.specs.Counting.{behind, counted, counts, inside}
+use Rattle.vd_function_names.specs.declared.counting.Counted.{Counted}
+use Rattle.vd_function_names.specs.declared.counting.Counting.{Counting}
+use Rattle.vd_meaning.specs.Kinds
+use Rattle.vd_resolved.specs.declared.node.Resolved.{Resolved}
+use Rattle.vd_body_likeness.specs.declared.identified.Saying.TheVariants as saying
+use Rattle.vd_function_names.specs.declared.counting.Counted.TheVariants as trees
+use Rattle.vd_function_names.specs.declared.counting.Counting.TheVariants as counting
+
+-- a character literal with its apostrophes
+abbrev pub character : List ℕ → List ℕ
+character text = 39 ∷ (text ++ 39 ∷ [])
+
+abbrev pub own_text : Counting → List ℕ → Option (List ℕ)
+own_text counting.Itself text = Some text
+own_text counting.Character text = Some (character text)
+own_text _ text = None
+
+-- the texts of some trees, as they are searched for
+abbrev pub text_finder : Finder Resolved Counted (List ℕ)
+text_finder = record {
+  answer = λ c n text place parts. if counts c then own_text (counted (Kinds.kind n.form)) text else None;
+  down = λ c n text place parts. if counts c then inside (counted (Kinds.kind n.form)) else trees.NoTrees;
+  along = λ c n text place parts. behind c;
+}
+
+-- which node says what a tree is called by, and which declaration it means: the tree itself, or one of its parts
+abbrev pub said : Kinds.Kind → Saying
+said Kinds.NotThere = saying.Nothing
+said Kinds.Associated = saying.SecondPart
+said Kinds.AssociatedOthers = saying.FirstPart
+said Kinds.OpenIndex = saying.FirstPart
+said Kinds.MarkName = saying.LastPart
+said Kinds.NewType = saying.Unnamed
+said Kinds.NewSubtype = saying.Unnamed
+said Kinds.NewConstants = saying.Unnamed
+said Kinds.NewVariables = saying.Unnamed
+said Kinds.NewFunction = saying.Unnamed
+said Kinds.NewInstance = saying.Unnamed
+said Kinds.Sequence = saying.Unnamed
+said Kinds.Labelled = saying.Unnamed
+said Kinds.AssignSignal = saying.Unnamed
+said Kinds.AssignVariable = saying.Unnamed
+said Kinds.SelectSignal = saying.Unnamed
+said Kinds.SelectVariable = saying.Unnamed
+said Kinds.If = saying.Unnamed
+said Kinds.Case = saying.Unnamed
+said Kinds.Suspend = saying.Unnamed
+said Kinds.Asserting = saying.Unnamed
+said Kinds.Reporting = saying.Unnamed
+said Kinds.Giving = saying.Unnamed
+said (Kinds.Jumping out) = saying.Unnamed
+said Kinds.AssignConcurrently = saying.Unnamed
+said _ = saying.Itself

@@ -1,0 +1,4 @@
+pub mod ForeignLemmas
+pub mod NumberLemmas
+pub mod ReachingLemmas
+pub mod WalkLemmas

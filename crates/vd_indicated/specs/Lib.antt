@@ -1,0 +1,2 @@
+pub mod Indicated
+pub mod Bounds

@@ -1,0 +1,10 @@
+//! The fields of record subtypes by their numbers, in few steps.
+#![tactic(auto)]
+
+pub mod fields;
+pub mod jumps;
+#[cfg(test)]
+mod tests;
+
+pub use fields::FieldTable;
+pub use jumps::Jump;

@@ -1,0 +1,4 @@
+pub mod PartLemmas
+pub mod ConstraintLemmas
+pub mod FoundLemmas
+pub mod InsideLemmas

@@ -1,0 +1,3 @@
+pub mod RowLemmas
+pub mod StateLemmas
+pub mod ViewLemmas

@@ -1,0 +1,7 @@
+pub mod ElementLemmas
+pub mod PartLemmas
+pub mod PieceLemmas
+pub mod SeekLemmas
+pub mod PortLemmas
+pub mod ViewLemmas
+pub mod InstanceLemmas

@@ -1,0 +1,14 @@
+use Rattle.std.proofs.Common.{◌≡◌, ◌≤◌, ℕ, drop, length}
+use Rattle.std.specs.Prelude.{nat_eq}
+use Rattle.std.specs.HashMap.{get}
+use Rattle.vd_port_modes.specs.Tables.{found_before}
+use Rattle.vd_port_modes.proofs.numbers.views_by_number.Given as goal
+
+abbrev pub invariant-loop-left : goal.invariant-loop-left
+invariant-loop-left l = record {
+  within : l.left ≤ length l.copies;
+  put : (n : ℕ) → get nat_eq l.table n ≡ found_before l.left l.views (drop l.left l.copies) n;
+}
+
+abbrev pub decreases-loop-left : goal.decreases-loop-left
+decreases-loop-left l = l.left

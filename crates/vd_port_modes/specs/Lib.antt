@@ -1,0 +1,4 @@
+pub mod Code
+pub mod Readings
+pub mod Source
+pub mod Tables
