@@ -1,3 +1,4 @@
 pub mod GoalLemmas
 pub mod ReachLemmas
 pub mod MemberLemmas
+pub mod PossibleLemmas

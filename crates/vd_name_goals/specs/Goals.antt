@@ -1,9 +1,11 @@
 -- What a name can come to at its end. What is wanted of a name is asked there alone: each piece leads to the same prefixes whatever is wanted.
-use Rattle.std.specs.Prelude.{ℕ, List, [], map}
-use Rattle.std.specs.List.{Contains, flat_map}
+use Rattle.std.specs.Prelude.{ℕ, Bool, true, false, List, [], map}
+use Rattle.std.specs.List.{Contains, flat_map, list_any}
 use Rattle.vd_forest.specs.Forest.{Forest, nothing, more}
 use Rattle.vd_forms.specs.declared.form.Form.{Form}
 use Rattle.vd_sights.specs.Sights.{Sight}
+use Rattle.vd_sights.specs.declared.kinds.Kind.{Kind}
+use Rattle.vd_sights.specs.declared.kinds.Kind.TheVariants as kind
 use Rattle.vd_states.specs.declared.states.Prefix.{Prefix}
 use Rattle.vd_states.specs.declared.states.Prefix.TheVariants as prefix
 use Rattle.vd_states.specs.declared.states.State.{State}
@@ -12,7 +14,7 @@ use Rattle.vd_states.specs.declared.states.Want.{Want}
 use Rattle.vd_states.specs.declared.states.Want.TheVariants as want
 use Rattle.vd_states.specs.declared.ways.Way.{Way}
 use Rattle.vd_readings.specs.Readings.{Rules}
-use Rattle.vd_ways.specs.Ways.{ends, ways}
+use Rattle.vd_ways.specs.Ways.{ends, meets, ways}
 
 -- the language of expressions, by what is seen
 abbrev pub rules_of : Sight → Rules
@@ -54,3 +56,13 @@ ends_of_name s (more form text place parts next) = ends_behind s (heads s form t
 pub record SameMembers (ps qs : List Prefix) : Type 0 where
   pub all : (p : Prefix) → Contains qs p → Contains ps p
   pub no_more : (p : Prefix) → Contains ps p → Contains qs p
+
+-- a name, and not the symbol of an operator as one
+abbrev pub is_name_kind : Kind → Bool
+is_name_kind kind.Name = true
+is_name_kind _ = false
+
+-- whether an expression that is a name with these ends can have readings in a state
+abbrev pub is_possible : Sight → List Prefix → State → Bool
+is_possible s found (state.Only goal) = list_any (meets s goal) found
+is_possible s found _ = true

@@ -3,6 +3,8 @@
 
 pub mod ends;
 pub mod laws;
+pub mod possible;
 
 pub use ends::ends_of_name;
 pub use laws::{goals_are_met_at_ends, steps_keep_goals};
+pub use possible::possible_states;
