@@ -1,6 +1,6 @@
 -- Ends of lists that are gone through side by side. No name has a dash, so that a caller can name each in `#[tactic(auto, using(..))]`.
 use Rattle.std.proofs.Common.{◌≡◌, ◌≤◌, List, [], ap, drop, length, refl, sym, ℕ, ◌++◌, ◌∙◌, ◌∷◌}
-use Rattle.std.proofs.lemmas.List.{drop_all}
+use Rattle.std.proofs.lemmas.List.{append-nil, drop_all}
 use Rattle.vd_body_likeness.specs.Items.{items_of}
 use Rattle.vd_body_likeness.specs.declared.items.Item.{Item}
 use Rattle.vd_forest.specs.Forest.{Forest}
@@ -23,12 +23,8 @@ no_pairs xs ys k past = ap (λ zs. numbers_paired xs (items_of zs)) (drop_all k 
     none [] = refl
     none (z ∷ zs) = refl
 
-append_nothing : {A : Type 0} (xs : List A) → xs ++ [] ≡ xs
-append_nothing [] = refl
-append_nothing (x ∷ xs) = ap (λ ys. x ∷ ys) (append_nothing xs)
-
 nothing_more : {A : Type 0} (found rest want : List A) → rest ≡ [] → found ++ rest ≡ want → found ≡ want
-nothing_more found rest want none is = sym (append_nothing found) ∙ ap (λ xs. found ++ xs) (sym none) ∙ is
+nothing_more found rest want none is = sym (append-nil found) ∙ ap (λ xs. found ++ xs) (sym none) ∙ is
 
 pub each_ended : (f : Form) (names : List (List ℕ)) (numbers : List ℕ) (k : ℕ) (trees : List (Forest Resolved)) (found want : List InterfaceItem)
     → found ++ each_declared f (drop k names) (drop k numbers) trees ≡ want → length numbers ≤ k → found ≡ want

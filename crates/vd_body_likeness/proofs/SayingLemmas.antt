@@ -1,11 +1,10 @@
--- What trees are called by and mean, from their nodes. No name has a dash, so that a caller can name each in `#[tactic(auto, using(..))]`.
-use Rattle.std.proofs.Common.{◌≡◌, List, None, Option, [], ap, refl, suc, sym, zero, ℕ, ◌∙◌}
+-- What trees are called by, from their nodes.
+use Rattle.std.proofs.Common.{◌≡◌, List, [], ap, refl, sym, ℕ, ◌∙◌}
 use Rattle.vd_body_likeness.specs.Words.{said}
 use Rattle.vd_body_likeness.specs.declared.identified.Saying.{Saying}
 use Rattle.vd_bytes.specs.declared.places.Place.{Place}
-use Rattle.vd_forest.specs.Forest.{Forest, more, nothing, skipped}
-use Rattle.vd_meaning.specs.Brackets.{or_else}
-use Rattle.vd_meaning.specs.Facets.{Meaning, last_of, nth}
+use Rattle.vd_forest.specs.Forest.{Forest, more}
+use Rattle.vd_meaning.specs.Facets.{Meaning, nth}
 use Rattle.vd_meaning.specs.Kinds
 use Rattle.vd_meaning.specs.Meanings.{meaning_of, meanings}
 use Rattle.vd_meaning.specs.Tables.{Table}
@@ -15,42 +14,16 @@ use Rattle.vd_body_likeness.specs.declared.identified.Saying.TheVariants as sayi
 module _ (t : Table) where
   abbrev pub text_by : Saying → List ℕ → List Meaning → List ℕ
   text_by saying.Itself text ms = text
-  text_by saying.Unnamed text ms = []
   text_by saying.FirstPart text ms = (nth 0 ms).text
   text_by saying.SecondPart text ms = (nth 1 ms).text
-  text_by saying.LastPart text ms = text
   text_by saying.Nothing text ms = []
 
   text_of_kind : (k : Kinds.Kind) (n : Resolved) (text : List ℕ) (ms : List Meaning) → (meaning_of k t n text ms).text ≡ text_by (said k) text ms
   text_of_kind Kinds.Word n text ms = refl
   text_of_kind _ n text ms = refl
 
-  abbrev pub declaration_by : Saying → Resolved → List Meaning → Option ℕ
-  declaration_by saying.Itself n ms = n.declaration
-  declaration_by saying.Unnamed n ms = n.declaration
-  declaration_by saying.FirstPart n ms = (nth 0 ms).declaration
-  declaration_by saying.SecondPart n ms = (nth 1 ms).declaration
-  declaration_by saying.LastPart n ms = or_else n.declaration (last_of ms).declaration
-  declaration_by saying.Nothing n ms = None
-
-  declaration_of_kind : (k : Kinds.Kind) (n : Resolved) (text : List ℕ) (ms : List Meaning)
-      → (meaning_of k t n text ms).declaration ≡ declaration_by (said k) n ms
-  declaration_of_kind Kinds.Word n text ms = refl
-  declaration_of_kind _ n text ms = refl
-
   pub text_step : (f : Forest Resolved) (n : Resolved) (text : List ℕ) (place : Place) (parts next : Forest Resolved) (s : Saying)
       → f ≡ more n text place parts next → s ≡ said (Kinds.kind n.form) → (nth 0 (meanings t f)).text ≡ text_by s text (meanings t parts)
   text_step f n text place parts next s is s_is =
       ap (λ g. (nth 0 (meanings t g)).text) is ∙ text_of_kind (Kinds.kind n.form) n text (meanings t parts)
       ∙ ap (λ r. text_by r text (meanings t parts)) (sym s_is)
-
-  pub declaration_step : (f : Forest Resolved) (n : Resolved) (text : List ℕ) (place : Place) (parts next : Forest Resolved) (s : Saying)
-      → f ≡ more n text place parts next → s ≡ said (Kinds.kind n.form) → (nth 0 (meanings t f)).declaration ≡ declaration_by s n (meanings t parts)
-  declaration_step f n text place parts next s is s_is =
-      ap (λ g. (nth 0 (meanings t g)).declaration) is ∙ declaration_of_kind (Kinds.kind n.form) n text (meanings t parts)
-      ∙ ap (λ r. declaration_by r n (meanings t parts)) (sym s_is)
-
-  pub nth_skipped : (k : ℕ) (f : Forest Resolved) → nth 0 (meanings t (skipped k f)) ≡ nth k (meanings t f)
-  nth_skipped zero f = refl
-  nth_skipped (suc k) nothing = nth_skipped k nothing
-  nth_skipped (suc k) (more n text place parts next) = nth_skipped k next

@@ -1,5 +1,6 @@
 -- What is found for lists of identifiers is what they mean. No name has a dash, so that a caller can name each in `#[tactic(auto, using(..))]`.
 use Rattle.std.proofs.Common.{◌≡◌, List, [], ap, ap₂, refl, sym, ℕ, ◌++◌, ◌∙◌, ◌∷◌}
+use Rattle.std.proofs.lemmas.List.{append-nil}
 use Rattle.vd_body_likeness.specs.Words.{character, own_text, text_finder}
 use Rattle.vd_bytes.specs.declared.places.Place.{Place}
 use Rattle.vd_forest.specs.Forest.{Forest, more, nothing}
@@ -14,10 +15,6 @@ use Rattle.vd_meaning.specs.Tables.{Table}
 use Rattle.vd_resolved.specs.declared.node.Resolved.{Resolved}
 use Rattle.vd_function_names.specs.declared.counting.Counted.TheVariants as trees
 use Rattle.vd_function_names.specs.declared.counting.Counting.TheVariants as counting
-
-append_nothing : {A : Type 0} (xs : List A) → xs ++ [] ≡ xs
-append_nothing [] = refl
-append_nothing (x ∷ xs) = ap (λ ys. x ∷ ys) (append_nothing xs)
 
 module _ (t : Table) where
   -- the texts of a node, from what its parts mean
@@ -71,7 +68,7 @@ module _ (t : Table) where
       let k = counted (Kinds.kind n.form) in
       ap₂ (λ xs ys. with_answer (own_text k text) (xs ++ ys)) (all_texts (inside k) parts) (all_texts trees.NoTrees next)
       ∙ node_in_front n text place (meanings t parts) []
-      ∙ append_nothing ((node_meaning t n text place (meanings t parts)).texts)
+      ∙ append-nil ((node_meaning t n text place (meanings t parts)).texts)
   all_texts trees.SecondAlone (more n text place parts next) =
       ap₂ (λ (xs ys : List (List ℕ)). xs ++ ys) (all_texts trees.NoTrees parts) (all_texts trees.FirstAlone next)
   all_texts trees.NoTrees (more n text place parts next) =

@@ -28,31 +28,30 @@ text_finder = record {
   along = λ c n text place parts. behind c;
 }
 
--- which node says what a tree is called by, and which declaration it means: the tree itself, or one of its parts
+-- which node says what a tree is called by: the tree itself, one of its parts, or none
 abbrev pub said : Kinds.Kind → Saying
 said Kinds.NotThere = saying.Nothing
 said Kinds.Associated = saying.SecondPart
 said Kinds.AssociatedOthers = saying.FirstPart
 said Kinds.OpenIndex = saying.FirstPart
-said Kinds.MarkName = saying.LastPart
-said Kinds.NewType = saying.Unnamed
-said Kinds.NewSubtype = saying.Unnamed
-said Kinds.NewConstants = saying.Unnamed
-said Kinds.NewVariables = saying.Unnamed
-said Kinds.NewFunction = saying.Unnamed
-said Kinds.NewInstance = saying.Unnamed
-said Kinds.Sequence = saying.Unnamed
-said Kinds.Labelled = saying.Unnamed
-said Kinds.AssignSignal = saying.Unnamed
-said Kinds.AssignVariable = saying.Unnamed
-said Kinds.SelectSignal = saying.Unnamed
-said Kinds.SelectVariable = saying.Unnamed
-said Kinds.If = saying.Unnamed
-said Kinds.Case = saying.Unnamed
-said Kinds.Suspend = saying.Unnamed
-said Kinds.Asserting = saying.Unnamed
-said Kinds.Reporting = saying.Unnamed
-said Kinds.Giving = saying.Unnamed
-said (Kinds.Jumping out) = saying.Unnamed
-said Kinds.AssignConcurrently = saying.Unnamed
+said Kinds.NewType = saying.Nothing
+said Kinds.NewSubtype = saying.Nothing
+said Kinds.NewConstants = saying.Nothing
+said Kinds.NewVariables = saying.Nothing
+said Kinds.NewFunction = saying.Nothing
+said Kinds.NewInstance = saying.Nothing
+said Kinds.Sequence = saying.Nothing
+said Kinds.Labelled = saying.Nothing
+said Kinds.AssignSignal = saying.Nothing
+said Kinds.AssignVariable = saying.Nothing
+said Kinds.SelectSignal = saying.Nothing
+said Kinds.SelectVariable = saying.Nothing
+said Kinds.If = saying.Nothing
+said Kinds.Case = saying.Nothing
+said Kinds.Suspend = saying.Nothing
+said Kinds.Asserting = saying.Nothing
+said Kinds.Reporting = saying.Nothing
+said Kinds.Giving = saying.Nothing
+said (Kinds.Jumping out) = saying.Nothing
+said Kinds.AssignConcurrently = saying.Nothing
 said _ = saying.Itself

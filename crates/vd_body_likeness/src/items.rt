@@ -11,11 +11,12 @@ ghost use Rattle.vd_value_rules.specs.Bodies.{declared_of as declared_by_parts, 
 ghost use Rattle.vd_value_rules.specs.Designs.{Design};
 ghost use Rattle.vd_value_rules.specs.Knowledge.{meaning_at};
 
-use crate::identified::{number_made, text_of_first};
+use crate::identified::text_of_first;
 use crate::words::texts_of_first;
 use std::alloc::{AllocError, Global};
 use vd_bytes::Text;
 use vd_declarations::DeclId;
+use vd_facets::number_made;
 use vd_forest::{Cursor, Opened};
 use vd_forms::Form;
 use vd_function_names::numbers::numbers_of_first;
@@ -125,7 +126,7 @@ fn add_named<'a>(
     found.push(Item {
         form: node.form,
         name: text,
-        number: number_made(node, name),
+        number: number_made(node, name).number(),
         trees: trees.fork(),
         count,
     })?;

@@ -1,7 +1,7 @@
 //! The identifiers and literals of a list.
 
 ghost use Rattle.std.specs.Prelude.{◌≡◌, IfOk, MatchOption, Option, None, Some, map};
-ghost use Rattle.vd_body_likeness.specs.Words.{character as with_apostrophes, own_text as text_of_itself, text_finder};
+ghost use Rattle.vd_body_likeness.specs.Words.{own_text as text_of_itself, text_finder};
 ghost use Rattle.vd_finding.specs.Finding.{Finder};
 ghost use Rattle.vd_meaning.specs.Facets.{nth};
 ghost use Rattle.vd_meaning.specs.Meanings.{meanings};
@@ -9,22 +9,12 @@ ghost use Rattle.vd_meaning.specs.Tables.{Table};
 
 use std::alloc::{AllocError, Global};
 use vd_bytes::Text;
+use vd_facets::quoted;
 use vd_finding::Finding;
 use vd_forest::{Cursor, Opened};
 use vd_function_names::counting::{Counted, Counting, behind, counting_of, counts, inside};
 use vd_gathering::find_all;
 use vd_resolved::Resolved;
-
-/// A character literal with its apostrophes.
-fn character(alloc: Global, text: &[u8]) -> Result<Text, AllocError>
-    ensures { IfOk result (λ t. t ≡ with_apostrophes text.now) }
-{
-    let mut bytes = Vec::new(alloc);
-    bytes.push(b'\'')?;
-    bytes.extend_from_slice(text)?;
-    bytes.push(b'\'')?;
-    Text::from_slice(alloc, bytes.as_slice())
-}
 
 /// The text that a node has as one of a list.
 fn own_text(alloc: Global, counting: Counting, text: &[u8]) -> Result<Option<Text>, AllocError>
@@ -36,7 +26,7 @@ fn own_text(alloc: Global, counting: Counting, text: &[u8]) -> Result<Option<Tex
             Ok(Some(own))
         }
         Counting::Character => {
-            let own = character(alloc, text)?;
+            let own = quoted(alloc, text)?;
             Ok(Some(own))
         }
         _ => Ok(None),

@@ -1,5 +1,6 @@
 -- What the walk comes to is what the group refuses. No name has a dash, so that a caller can name each in `#[tactic(auto, using(..))]`.
 use Rattle.std.proofs.Common.{◌≡◌, Bool, List, None, Option, [], ap, ap₂, append_assoc, false, length, refl, sym, true, ℕ, ◌++◌, ◌∙◌, ◌∷◌}
+use Rattle.std.proofs.lemmas.List.{append-nil}
 use Rattle.std.proofs.Math.Seq.{take-append_seam}
 use Rattle.std.specs.List.{filter}
 use Rattle.vd_body_rules.proofs.StateLemmas.{along_declares, down_keeps}
@@ -68,15 +69,11 @@ same_least d f =
 
 -- ---- the walk
 
-append_nothing : {A : Type 0} (xs : List A) → xs ++ [] ≡ xs
-append_nothing [] = refl
-append_nothing (x ∷ xs) = ap (λ ys. x ∷ ys) (append_nothing xs)
-
 left_is : (k : Declares) (d : Design) (n : Resolved) (parts : Forest Resolved) (xs es : List (ℕ × Forest Resolved))
     → texts_left k d n parts (length xs) (xs ++ es) ≡ xs ++ texts_by k d n parts es
 left_is declares.Inside d n parts xs es = refl
 left_is declares.Function d n parts xs es = append_assoc xs es ((number_or (made n (meaning_at d 1 parts)), parts) ∷ [])
-left_is declares.Nothing d n parts xs es = take-append_seam xs es ∙ sym (append_nothing xs)
+left_is declares.Nothing d n parts xs es = take-append_seam xs es ∙ sym (append-nil xs)
 
 module _ {G D : Type 0} (d : Design) where
   abbrev refusing : List (ℕ × Forest Resolved) → D → Option Refused → Walked G (List (ℕ × Forest Resolved)) D
@@ -84,7 +81,7 @@ module _ {G D : Type 0} (d : Design) where
 
   pub walk_is : (f : Forest Resolved) (xs : List (ℕ × Forest Resolved)) (table : D)
       → walked (bodies_walker d) f xs table ≡ refusing (xs ++ texts_declared d f) table (least (texts_judge d) xs f)
-  walk_is nothing xs table = ap (λ ys. refusing ys table None) (sym (append_nothing xs))
+  walk_is nothing xs table = ap (λ ys. refusing ys table None) (sym (append-nil xs))
   walk_is (more n text place parts next) xs table =
       let declared = texts_by (texted (declaring n.form)) d n parts (texts_declared d parts) in
       let here = least_of (body_broken n.form d (knowing (known_texts xs)) n place parts) in

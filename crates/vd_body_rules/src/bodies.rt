@@ -17,29 +17,19 @@ use crate::declaring::{Declares, declared_by};
 use crate::texts::Texts;
 use std::alloc::{AllocError, Global};
 use vd_body_likeness::differs;
-use vd_body_likeness::identified::number_made;
 use vd_bytes::{Place, Refused};
+use vd_facets::number_made;
 use vd_forest::{Cursor, Opened};
 use vd_forms::Form;
 use vd_resolved::Resolved;
+use vd_rule_groups::refused_if;
 
 /// The number of the function that a node declares.
 fn function_number(node: &Opened<'_, Resolved>) -> u32
     ensures { (d : Design) → result ≡ number_or (made node.now.form (meaning_at d 1 node.now.parts)) }
 {
     let name = node.parts.skip(1);
-    let number = number_made(&node.form, &name);
-    number
-}
-
-fn refused_if(is_refused: bool, place: Place) -> Option<Refused>
-    ensures { result ≡ least_of (refused_where is_refused place 409) }
-{
-    if is_refused {
-        Some(Refused { place, rule: 409 })
-    } else {
-        None
-    }
+    number_made(&node.form, &name).number()
 }
 
 /// The refusal of a body whose function has this text.
@@ -55,7 +45,7 @@ fn refused_by(
         None => Ok(None),
         Some(own) => {
             let other = differs(alloc, own, parts)?;
-            Ok(refused_if(other, place))
+            Ok(refused_if(other, place, 409))
         }
     }
 }

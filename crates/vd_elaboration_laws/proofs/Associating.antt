@@ -320,6 +320,8 @@ module _ (l : Link) (numbers : IsApart l) where
         shape = λ e k. refl;
         subtype = λ e k. refl;
         make = λ e k. refl;
+        is_object = refl;
+        local_slices = λ e k. refl;
         is_mark = refl;
         mark = refl;
         callee = refl;

@@ -1,4 +1,3 @@
 pub mod PieceLemmas
 pub mod SenseLemmas
-pub mod StackLemmas
-pub mod VisitLemmas
+pub mod TreeLemmas

@@ -4,4 +4,3 @@ pub mod Outlines
 pub mod Pieces
 pub mod Senses
 pub mod Taken
-pub mod Visits

@@ -1,6 +1,5 @@
 -- What the evaluated nodes of the code say of the meanings of these nodes.
-use Rattle.std.specs.Prelude.{◌≡◌, ℕ, true, false, List, [], ◌∷◌, map, Option, None, Some, slice_get, Ok, Err, Vec, reverse}
-use Rattle.std.specs.Global.{Global}
+use Rattle.std.specs.Prelude.{◌≡◌, ℕ, true, false, List, [], ◌∷◌, map, Option, None, Some, slice_get, Ok, Err}
 use Rattle.vd_values.specs.declared.scalar.Scalar.{Scalar}
 use Rattle.vd_forest.specs.Forest.{Forest, nothing, more}
 use Rattle.vd_resolved.specs.declared.node.Resolved.{Resolved}
@@ -157,13 +156,7 @@ pub record AreTrees (t : Table) (entries : List Entry) (ss : List Sense) (f : Fo
   pub outlines : map sense_outline ss ≡ outlines t f
   pub senses : (e : Env) → Holds entries e → AreSenses e ss (meanings t f)
 
--- several forests, each with its last tree first
-abbrev pub AreForests : Table → List Entry → List (Vec Sense Global) → List (Forest Resolved) → Type 0
-AreForests t entries [] [] = Unit {0}
-AreForests t entries (v ∷ vs) (f ∷ fs) = AreTrees t entries (reverse v.items) f × AreForests t entries vs fs
-AreForests t entries _ _ = ⊥
-
--- a forest takes what stands for its parts and the trees behind its first one
-abbrev pub Takes : Forest Resolved → List (Forest Resolved) → List (Forest Resolved) → Type 0
-Takes nothing fs rest = fs ≡ rest
-Takes (more n text place parts next) fs rest = fs ≡ parts ∷ next ∷ rest
+-- the first tree of a forest
+abbrev pub IsTree : Table → List Entry → Forest Resolved → Sense → Type 0
+IsTree t entries nothing s = ⊥
+IsTree t entries (more n text place parts next) s = AreTrees t entries (s ∷ []) (more n text place parts nothing)

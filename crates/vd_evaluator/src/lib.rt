@@ -9,7 +9,6 @@ mod nodes;
 mod pieces;
 mod senses;
 mod stacking;
-mod visits;
 mod words;
 
 pub use ends::EvaluateEnd;

@@ -3,15 +3,14 @@
 ghost use Rattle.std.specs.Prelude.{◌≡◌, IfOk};
 ghost use Rattle.vd_composites.specs.Answers.{Answers};
 ghost use Rattle.vd_composites.specs.Parts.{part};
-ghost use Rattle.vd_composites.specs.Scalars.{position_of};
 ghost use Rattle.vd_evaluator.specs.Pieces.{first_word as begun, own_value, part_found, part_value, position_read, with_pieces as all_pieced, with_what as whatever};
 ghost use Rattle.vd_evaluator.specs.Senses.{step_in};
 
 use crate::senses::{Name, Part, Piece, Sense, What};
 use std::alloc::{AllocError, Global};
 use vd_composites::{Value, ValueEnd};
-use vd_plain_values::answers::{again, settled};
-use vd_values::{Scalar, StopKind};
+use vd_plain_values::answers::{again, scalar_position, settled};
+use vd_values::StopKind;
 
 /// A part of a value.
 fn part_at(alloc: Global, value: &Value, at: Part) -> Result<Value, ValueEnd>
@@ -117,23 +116,6 @@ pub(crate) fn named(alloc: Global, first: &What, pieces: &[Sense<'_>]) -> Result
     Ok(name)
 }
 
-/// The position of a scalar value. No operator gives a time above the greatest one; it is answered as want of memory.
-fn position(scalar: Scalar) -> Result<i64, AllocError>
-    ensures { IfOk result (λ i. i ≡ position_of scalar) }
-{
-    match scalar {
-        Scalar::Integer(x) => Ok(i64::from(x)),
-        Scalar::Literal(n) => Ok(i64::from(n)),
-        Scalar::Time(t) => {
-            if t > i64::MAX as u64 {
-                Err(AllocError)
-            } else {
-                Ok(t as i64)
-            }
-        }
-    }
-}
-
 /// The position of what may have stopped.
 pub(crate) fn position_found(
     found: &Result<Value, StopKind>,
@@ -143,7 +125,7 @@ pub(crate) fn position_found(
     match found {
         Ok(value) => match value.as_scalar() {
             Some(scalar) => {
-                let at = position(scalar)?;
+                let at = scalar_position(scalar)?;
                 Ok(Ok(at))
             }
             None => Ok(Err(StopKind::Range)),

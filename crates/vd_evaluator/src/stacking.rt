@@ -1,54 +1,54 @@
 //! A forest evaluated from its leaves on.
 
-ghost use Rattle.std.specs.Prelude.{◌≡◌, ◌∷◌, IfOk, OnOk, List, map, reverse};
-ghost use Rattle.vd_forest.specs.Forest.{Forest};
+ghost use Rattle.std.specs.Prelude.{IfOk};
 ghost use Rattle.vd_meaning.specs.Tables.{table};
-ghost use Rattle.vd_resolved.specs.declared.node.Resolved.{Resolved as NodeForm};
-ghost use Rattle.vd_evaluator.specs.Senses.{AreForests, AreTrees, Takes};
+ghost use Rattle.vd_evaluator.specs.Senses.{AreTrees};
 
 use crate::nodes::sense;
 use crate::senses::Sense;
-use crate::visits::visits;
 use std::alloc::{AllocError, Global};
+use vd_bottom_up::{BottomUp, bottom_up};
 use vd_declarations::Declaration;
 use vd_forest::Cursor;
 use vd_plain_values::Entry;
 use vd_resolved::Resolved;
 use vd_trees::Revision;
 
-/// Puts what the first tree of a forest is in front of what stands for the trees behind it. What stands for these and for the
-/// parts of the tree is on the stack, each with its last tree first.
-fn step<'a>(
-    alloc: Global,
+/// What nodes are evaluated over.
+#[derive(Clone, Copy)]
+struct Evaluating<'d, 'e> {
     revision: Revision,
-    declarations: &[Declaration],
-    environment: &[Entry<'_>],
-    forest: &Cursor<'a, Resolved>,
-    stack: &mut Vec<Vec<Sense<'a>>>,
-) -> Result<(), AllocError>
-    ensures { (fs rest : List (Forest NodeForm)) → Takes forest.now fs rest → AreForests (table revision declarations.now) environment.now (reverse stack.old.items) fs
-        → OnOk result (AreForests (table revision declarations.now) environment.now (reverse stack.new.items) (forest.now ∷ rest)) }
-{
-    let Some(first) = forest.open() else {
-        stack.push(Vec::new(alloc))?;
-        return Ok(());
-    };
-    let (Some(mut parts), Some(mut trees)) = (stack.pop(), stack.pop()) else {
-        return Err(AllocError);
-    };
-    parts.reverse();
-    let made = sense(
-        alloc,
-        revision,
-        declarations,
-        environment,
-        first.form,
-        first.text,
-        &parts,
-    )?;
-    trees.push(made)?;
-    stack.push(trees)?;
-    Ok(())
+    declarations: &'d [Declaration],
+    environment: &'d [Entry<'e>],
+}
+
+impl<'a, 'd, 'e> BottomUp<'a, Resolved, Sense<'a>> for Evaluating<'d, 'e> {
+    ghost use Rattle.vd_evaluator.specs.Senses.{IsTree};
+    ghost use Rattle.vd_meaning.specs.Tables.{table};
+
+    ghost is_ready = { λ by. Unit {0} };
+
+    ghost is_sound = { λ by s. Unit {0} };
+
+    ghost comes_to = { λ by. IsTree (table by.revision by.declarations.now) by.environment.now };
+
+    fn node(
+        &mut self,
+        alloc: Global,
+        form: Resolved,
+        text: &'a [u8],
+        parts: &[Sense<'a>],
+    ) -> Result<Sense<'a>, AllocError> {
+        sense(
+            alloc,
+            self.revision,
+            self.declarations,
+            self.environment,
+            form,
+            text,
+            parts,
+        )
+    }
 }
 
 /// The trees of a forest, evaluated.
@@ -61,23 +61,10 @@ pub(crate) fn senses<'a>(
 ) -> Result<Vec<Sense<'a>>, AllocError>
     ensures { IfOk result (λ made. AreTrees (table revision declarations.now) environment.now made.items from.now) }
 {
-    let forests = visits(alloc, from)?;
-    let mut stack: Vec<Vec<Sense<'a>>> = Vec::new(alloc);
-    let mut left = forests.len();
-    while left > 0 {
-        left -= 1;
-        step(
-            alloc,
-            revision,
-            declarations,
-            environment,
-            &forests[left],
-            &mut stack,
-        )?;
-    }
-    let Some(mut made) = stack.pop() else {
-        return Err(AllocError);
+    let mut evaluating = Evaluating {
+        revision,
+        declarations,
+        environment,
     };
-    made.reverse();
-    Ok(made)
+    bottom_up(alloc, from, &mut evaluating)
 }

@@ -20,7 +20,7 @@ declaration_by Second n ms = (nth 1 ms).declaration
 declaration_by Last n ms = or_else n.declaration (last_of ms).declaration
 declaration_by _ n ms = n.declaration
 
-declaration_passed : (k : Kind) (t : Table) (n : Resolved) (text : List ℕ) (ms : List Meaning) → (meaning_of k t n text ms).declaration ≡ declaration_by (passing k) n ms
+pub declaration_passed : (k : Kind) (t : Table) (n : Resolved) (text : List ℕ) (ms : List Meaning) → (meaning_of k t n text ms).declaration ≡ declaration_by (passing k) n ms
 declaration_passed NotThere t n text ms = refl
 declaration_passed _ t n text ms = refl
 
@@ -34,6 +34,17 @@ elements_by _ ms = []
 elements_passed : (k : Kind) (t : Table) (n : Resolved) (text : List ℕ) (ms : List Meaning) → (meaning_of k t n text ms).elements ≡ elements_by (passing k) ms
 elements_passed NotThere t n text ms = refl
 elements_passed _ t n text ms = refl
+
+abbrev pub present_by : Passing → List Meaning → Bool
+present_by Nothing ms = false
+present_by First ms = (nth 0 ms).is_present
+present_by OpenFirst ms = (nth 0 ms).is_present
+present_by Second ms = (nth 1 ms).is_present
+present_by _ ms = true
+
+pub present_passed : (k : Kind) (t : Table) (n : Resolved) (text : List ℕ) (ms : List Meaning) → (meaning_of k t n text ms).is_present ≡ present_by (passing k) ms
+present_passed NotThere t n text ms = refl
+present_passed _ t n text ms = refl
 
 abbrev pub open_by : Passing → List Meaning → Bool
 open_by First ms = (nth 0 ms).is_open
@@ -109,6 +120,9 @@ declared_at t f = (nth 0 (meanings t f)).declaration
 abbrev pub elements_at : Table → Forest Resolved → List MapElement
 elements_at t f = (nth 0 (meanings t f)).elements
 
+abbrev pub present_at : Table → Forest Resolved → Bool
+present_at t f = (nth 0 (meanings t f)).is_present
+
 abbrev pub open_at : Table → Forest Resolved → Bool
 open_at t f = (nth 0 (meanings t f)).is_open
 
@@ -126,6 +140,9 @@ module _ (t : Table) (f : Forest Resolved) (n : Resolved) (text : List ℕ) (pla
 
   pub listed_by : elements_at t f ≡ elements_by p (meanings t parts)
   listed_by = ap (elements_at t) is ∙ elements_passed (kind n.form) t n text (meanings t parts) ∙ ap (λ v. elements_by v (meanings t parts)) (sym passed)
+
+  pub there_by : present_at t f ≡ present_by p (meanings t parts)
+  there_by = ap (present_at t) is ∙ present_passed (kind n.form) t n text (meanings t parts) ∙ ap (λ v. present_by v (meanings t parts)) (sym passed)
 
   pub opened_by : open_at t f ≡ open_by p (meanings t parts)
   opened_by = ap (open_at t) is ∙ open_passed (kind n.form) t n text (meanings t parts) ∙ ap (λ v. open_by v (meanings t parts)) (sym passed)

@@ -8,7 +8,7 @@ use vd_forms::Form;
 
 /// What a node takes over from its parts.
 #[derive(Clone, Copy)]
-pub(crate) enum Passing {
+pub enum Passing {
     /// Nothing stands there.
     Nothing,
     /// What its first part means, perhaps as what stands for all others.

@@ -4,7 +4,8 @@ ghost use Rattle.std.specs.Prelude.{◌≡◌, ◌≤◌, [], MatchOption, map};
 ghost use Rattle.vd_forest.specs.Forest.{size};
 ghost use Rattle.vd_facets.specs.Passing.{first_named, last_tree};
 ghost use Rattle.vd_meaning.specs.Facets.{nth};
-ghost use Rattle.vd_meaning.specs.Meanings.{formal_named, map_element, meanings};
+ghost use Rattle.vd_meaning.specs.Meanings.{formal_named, made, map_element, meanings};
+ghost use Rattle.vd_meaning.specs.Names.{number_or};
 ghost use Rattle.vd_meaning.specs.Tables.{Table};
 
 use crate::passing::{Passing, passing_of};
@@ -49,6 +50,16 @@ pub fn declaration_of(trees: &Cursor<'_, Resolved>) -> Option<DeclId>
     None
 }
 
+/// The number of what a node declares, which it carries itself or the first of these trees; 0 where there is none.
+pub fn number_made(node: &Resolved, trees: &Cursor<'_, Resolved>) -> DeclId
+    ensures { (t : Table) → result ≡ number_or (made node.now (nth 0 (meanings t trees.now))) }
+{
+    match node.declaration.or(declaration_of(trees)) {
+        Some(number) => number,
+        None => DeclId::of(0),
+    }
+}
+
 /// What the first of the choices of the first tree names.
 fn named_first(trees: &Cursor<'_, Resolved>) -> Option<DeclId>
     ensures { (t : Table) → result ≡ first_named (nth 0 (meanings t trees.now)).choices }
@@ -77,6 +88,22 @@ pub fn formal_of(trees: &Cursor<'_, Resolved>) -> Option<DeclId>
         }
     }
     None
+}
+
+/// Whether the first tree is there.
+pub fn is_present(trees: &Cursor<'_, Resolved>) -> bool
+    ensures { (t : Table) → result ≡ (nth 0 (meanings t trees.now)).is_present }
+{
+    let mut rest = trees.fork();
+    while let Some(first) = rest.open() {
+        match passing_of(first.form.form) {
+            Passing::Nothing => return false,
+            Passing::First | Passing::OpenFirst => rest = first.parts,
+            Passing::Second => rest = first.parts.skip(1),
+            _ => return true,
+        }
+    }
+    false
 }
 
 /// Whether the first tree is `open`.

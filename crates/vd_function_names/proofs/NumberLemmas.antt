@@ -1,5 +1,6 @@
 -- What is found for lists of identifiers is what they mean. No name has a dash, so that a caller can name each in `#[tactic(auto, using(..))]`.
-use Rattle.std.proofs.Common.{◌≡◌, ℕ, List, [], ◌∷◌, ◌++◌, Option, Some, None, refl, sym, ap, ap₂, ◌∙◌}
+use Rattle.std.proofs.Common.{◌≡◌, ℕ, List, [], ◌++◌, Option, Some, None, refl, sym, ap, ap₂, ◌∙◌}
+use Rattle.std.proofs.lemmas.List.{append-nil}
 use Rattle.std.specs.Prelude.{option_to_list}
 use Rattle.vd_bytes.specs.declared.places.Place.{Place}
 use Rattle.vd_forest.specs.Forest.{Forest, nothing, more}
@@ -14,10 +15,6 @@ use Rattle.vd_meaning.specs.Tables.{Table}
 use Rattle.vd_resolved.specs.declared.node.Resolved.{Resolved}
 use Rattle.vd_function_names.specs.declared.counting.Counted.TheVariants as trees
 use Rattle.vd_function_names.specs.declared.counting.Counting.TheVariants as counting
-
-append_nothing : {A : Type 0} (xs : List A) → xs ++ [] ≡ xs
-append_nothing [] = refl
-append_nothing (x ∷ xs) = ap (λ ys. x ∷ ys) (append_nothing xs)
 
 module _ (t : Table) where
   -- the numbers of a node, from what its parts mean
@@ -75,7 +72,7 @@ module _ (t : Table) where
       let k = counted (Kinds.kind n.form) in
       ap₂ (λ xs ys. with_answer (own_number k n.declaration) (xs ++ ys)) (all_numbers (inside k) parts) (all_numbers trees.NoTrees next)
       ∙ node_in_front n text place (meanings t parts) []
-      ∙ append_nothing ((node_meaning t n text place (meanings t parts)).numbers)
+      ∙ append-nil ((node_meaning t n text place (meanings t parts)).numbers)
   all_numbers trees.SecondAlone (more n text place parts next) =
       ap₂ (λ (xs ys : List ℕ). xs ++ ys) (all_numbers trees.NoTrees parts) (all_numbers trees.FirstAlone next)
   all_numbers trees.NoTrees (more n text place parts next) =

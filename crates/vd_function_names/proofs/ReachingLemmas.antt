@@ -4,7 +4,7 @@ use Rattle.std.specs.Prelude.{if◌then◌else◌}
 use Rattle.vd_bytes.specs.declared.places.Place.{Place}
 use Rattle.vd_forest.specs.Forest.{Forest, nothing, more}
 use Rattle.vd_forms.specs.declared.form.Form.{Form}
-use Rattle.vd_function_names.specs.Roles.{named_as, step_of}
+use Rattle.vd_function_names.specs.Steps.{step_of}
 use Rattle.vd_function_names.specs.declared.reaching.Step.{Step}
 use Rattle.vd_meaning.specs.Tables.{ElementRole, FunctionRole, MarkRole, Role, Table, role_of}
 use Rattle.vd_resolved.specs.declared.node.Resolved.{Resolved}
@@ -22,7 +22,7 @@ behind_step step.Ends number selected rest = number
 abbrev pub reached_from : Table → Forest Resolved → Option ℕ → Option ℕ
 reached_from t nothing number = number
 reached_from t (more n text place parts next) number =
-    behind_step (step_of n.form (named_as (role_of t n.declaration))) number n.declaration (reached_from t next)
+    behind_step (step_of n.form (role_of t n.declaration)) number n.declaration (reached_from t next)
 
 module _ (d : Design) where
   -- behind an end all stays as it is
@@ -36,11 +36,11 @@ module _ (d : Design) where
   Follows step.Selects n r r' = (r'.declaration ≡ n.declaration) × (is_over r' ≡ false)
   Follows step.Ends n r r' = (r'.declaration ≡ r.declaration) × (is_over r' ≡ true)
 
-  selection_follows : (role : Role) (n : Resolved) (r : Reached) → is_over r ≡ false → Follows (step_of form.Selection (named_as role)) n r (selected_in role d n r)
+  selection_follows : (role : Role) (n : Resolved) (r : Reached) → is_over r ≡ false → Follows (step_of form.Selection role) n r (selected_in role d n r)
   selection_follows ElementRole n r on = (refl, on)
   selection_follows _ n r on = (refl, refl)
 
-  brackets_follow : (role : Role) (n : Resolved) (r : Reached) → is_over r ≡ false → Follows (step_of form.Arguments (named_as role)) n r (bracketed_in role r)
+  brackets_follow : (role : Role) (n : Resolved) (r : Reached) → is_over r ≡ false → Follows (step_of form.Arguments role) n r (bracketed_in role r)
   brackets_follow FunctionRole n r on = (refl, refl)
   brackets_follow MarkRole n r on = (refl, refl)
   brackets_follow _ n r on = (refl, on)
@@ -50,7 +50,7 @@ module _ (d : Design) where
   or_true false = refl
 
   piece_follows : (f : Form) (n : Resolved) (parts : Forest Resolved) (r : Reached) → is_over r ≡ false
-      → Follows (step_of f (named_as (role_of d.table n.declaration))) n r (with_piece f d n parts r)
+      → Follows (step_of f (role_of d.table n.declaration)) n r (with_piece f d n parts r)
   piece_follows form.Selection n parts r on = selection_follows (role_of d.table n.declaration) n r on
   piece_follows form.Arguments n parts r on = brackets_follow (role_of d.table n.declaration) n r on
   piece_follows form.Attribute n parts r on = (refl, or_true r.is_value)
@@ -71,7 +71,7 @@ module _ (d : Design) where
   reached_behind_is nothing r on = refl
   reached_behind_is (more n text place parts next) r on =
       ap (λ b. (reached_behind d next (if b then r else with_piece n.form d n parts r)).declaration) on
-      ∙ behind_piece next n r (reached_behind_is next) (step_of n.form (named_as (role_of d.table n.declaration))) (with_piece n.form d n parts r)
+      ∙ behind_piece next n r (reached_behind_is next) (step_of n.form (role_of d.table n.declaration)) (with_piece n.form d n parts r)
       (piece_follows n.form n parts r on)
 
   pub reached_is : (n : Resolved) (text : List ℕ) (place : Place) (parts next : Forest Resolved)

@@ -1,32 +1,33 @@
 //! Names that a function may not use.
 
-ghost use Rattle.std.specs.Prelude.{◌≡◌, ◌||◌};
+ghost use Rattle.std.specs.Prelude.{◌≡◌, ◌&&◌, ◌||◌, not};
 ghost use Rattle.vd_elaboration.specs.Elaborations.{Units};
+ghost use Rattle.vd_facets.specs.Roles.{read_role};
 ghost use Rattle.vd_function_names.specs.Functions.{among};
-ghost use Rattle.vd_function_names.specs.Roles.{is_foreign_kind as is_foreign_as};
 ghost use Rattle.vd_least.specs.Least.{least_of};
-ghost use Rattle.vd_meaning.specs.Tables.{role_of, table};
+ghost use Rattle.vd_meaning.specs.Tables.{role_of as role_in, table};
 ghost use Rattle.vd_rule_groups.specs.Groups.{name_in_function as refused_in_function};
 ghost use Rattle.vd_trees.specs.declared.revision.Revision.{Revision};
 ghost use Rattle.vd_value_rules.specs.Names.{broken_in_function as broken_inside, is_outer_variable};
-ghost use Rattle.vd_value_rules.specs.Reaching.{is_signal_role, reached};
+ghost use Rattle.vd_value_rules.specs.Reaching.{is_signal_role, is_variable_role, reached};
 
 use crate::locals::Locals;
 use crate::reaching::declaration_reached;
-use crate::roles::{Named, kind_named};
 use vd_bytes::{Place, Refused};
 use vd_declarations::{DeclId, Declaration};
+use vd_facets::{Role, role_of};
 use vd_forest::{Cursor, Opened};
 use vd_forms::Form;
 use vd_resolved::Resolved;
+use vd_rule_groups::refused_if;
 
-/// Whether a function may not name what is such, where it declares it itself or not.
-fn is_foreign_kind(kind: Named, is_local: bool) -> bool
-    ensures { result ≡ is_foreign_as kind is_local }
+/// Whether a function may not name what has a role, where it declares it itself or not.
+fn is_foreign_role(role: Role, is_local: bool) -> bool
+    ensures { result ≡ (is_signal_role (read_role role) || (is_variable_role (read_role role) && not is_local)) }
 {
-    match kind {
-        Named::Signal => true,
-        Named::Variable => !is_local,
+    match role {
+        Role::Signal => true,
+        Role::Variable => !is_local,
         _ => false,
     }
 }
@@ -34,14 +35,14 @@ fn is_foreign_kind(kind: Named, is_local: bool) -> bool
 /// Whether a function with these variables may not name a declaration.
 fn is_foreign(declarations: &[Declaration], locals: &Locals, number: Option<DeclId>) -> bool
     ensures { (revision : Revision) (units : Units) → result
-        ≡ (is_signal_role (role_of (table revision declarations.now) number)
+        ≡ (is_signal_role (role_in (table revision declarations.now) number)
         || is_outer_variable locals.now (record { revision = revision; table = table revision declarations.now; units = units }) number) }
 {
     match number {
         None => false,
         Some(id) => {
             let is_local = locals.has(id);
-            is_foreign_kind(kind_named(declarations, number), is_local)
+            is_foreign_role(role_of(declarations, number), is_local)
         }
     }
 }
@@ -61,11 +62,7 @@ fn broken_in_function(
         None => None,
         Some(own) => {
             let number = declaration_reached(declarations, pieces);
-            if is_foreign(declarations, own, number) {
-                Some(Refused { place, rule: 409 })
-            } else {
-                None
-            }
+            refused_if(is_foreign(declarations, own, number), place, 409)
         }
     }
 }

@@ -6,7 +6,6 @@ pub mod foreign;
 pub mod locals;
 pub mod numbers;
 pub mod reaching;
-pub mod roles;
 pub mod walk;
 
 pub use walk::foreign_refusals;

@@ -2,13 +2,14 @@
 
 ghost use Rattle.std.specs.Prelude.{◌≡◌};
 ghost use Rattle.vd_elaboration.specs.Elaborations.{Units};
-ghost use Rattle.vd_function_names.specs.Roles.{step_of as step_by, named_as};
-ghost use Rattle.vd_meaning.specs.Tables.{role_of, table};
+ghost use Rattle.vd_facets.specs.Roles.{read_role};
+ghost use Rattle.vd_function_names.specs.Steps.{step_of as step_by};
+ghost use Rattle.vd_meaning.specs.Tables.{role_of as role_in, table};
 ghost use Rattle.vd_trees.specs.declared.revision.Revision.{Revision};
 ghost use Rattle.vd_value_rules.specs.Reaching.{reached};
 
-use crate::roles::{Named, kind_named};
 use vd_declarations::{DeclId, Declaration};
+use vd_facets::{Role, role_of};
 use vd_forest::{Cursor, Opened};
 use vd_forms::Form;
 use vd_resolved::Resolved;
@@ -25,16 +26,16 @@ pub enum Step {
 }
 
 /// What a piece of the form does.
-fn step_by_form(form: Form, named: Named) -> Step
-    ensures { result ≡ step_by form named }
+fn step_by_form(form: Form, role: Role) -> Step
+    ensures { result ≡ step_by form (read_role role) }
 {
     match form {
-        Form::Selection => match named {
-            Named::Element => Step::Stays,
+        Form::Selection => match role {
+            Role::Element => Step::Stays,
             _ => Step::Selects,
         },
-        Form::Arguments => match named {
-            Named::Called => Step::Ends,
+        Form::Arguments => match role {
+            Role::Function | Role::Mark => Step::Ends,
             _ => Step::Stays,
         },
         Form::Attribute | Form::RangeAttribute | Form::Qualification => Step::Ends,
@@ -44,9 +45,9 @@ fn step_by_form(form: Form, named: Named) -> Step
 
 /// What a piece does.
 fn step_of(declarations: &[Declaration], piece: &Resolved) -> Step
-    ensures { (revision : Revision) → result ≡ step_by piece.now.form (named_as (role_of (table revision declarations.now) piece.now.declaration)) }
+    ensures { (revision : Revision) → result ≡ step_by piece.now.form (role_in (table revision declarations.now) piece.now.declaration) }
 {
-    step_by_form(piece.form, kind_named(declarations, piece.declaration))
+    step_by_form(piece.form, role_of(declarations, piece.declaration))
 }
 
 /// The declaration that a name with these pieces names.

@@ -1,14 +1,14 @@
 -- Jumps after one another, and the tables of them.
-use Rattle.std.proofs.Common.{◌≡◌, ◌+◌, ◌-◌, ◌<◌, ◌≤◌, List, ap, arith, length, slice_index_or, suc, sym, ℕ, ◌∙◌}
+use Rattle.std.proofs.Common.{◌≡◌, ◌≢◌, ◌+◌, ◌-◌, ◌<◌, ◌≤◌, List, ap, arith, length, refl, slice_index_or, suc, sym, ℕ, ◌∙◌}
 use Rattle.vd_bytes.specs.declared.places.Place.{Place}
-use Rattle.vd_forest.specs.Forest.{Forest, more, next_of, skipped}
+use Rattle.vd_forest.specs.Forest.{Forest, more, next_of, nothing, skipped}
 use Rattle.vd_forest.specs.Store.{Extends, at}
 use Rattle.vd_forest.proofs.ForestLemmas.{skipped_nothing, skipped_skipped}
 use Rattle.vd_indicated.proofs.PartLemmas.{field_skipped}
 use Rattle.vd_indicated.specs.Indicated.{field_indicated, indicated_in}
 use Rattle.vd_indicated.specs.declared.forms.IndicatedForm.{IndicatedForm}
 use Rattle.vd_indicated.specs.declared.forms.IndicatedForm.TheVariants as form
-use Rattle.vd_indicated_fields.specs.Jumps.{AreJumps, IsJump, no_jump}
+use Rattle.vd_indicated_fields.specs.Jumps.{AreJumps, IsJump, field_trees, no_jump}
 use Rattle.vd_indicated_fields.specs.declared.jumps.Jump.{Jump}
 
 module _ (store : List (Forest IndicatedForm)) where
@@ -56,3 +56,20 @@ pub field_at : (store : List (Forest IndicatedForm)) (trees : Forest IndicatedFo
     → indicated_in (at store number) ≡ field_indicated n (indicated_in trees)
 field_at store trees text place parts next n number opened is =
     ap indicated_in is ∙ field_skipped n parts ∙ ap (λ f. field_indicated n (indicated_in f)) (sym opened)
+
+-- what is no record has no fields
+no_fields : (n : ℕ) (node : IndicatedForm) (text : List ℕ) (place : Place) (parts next : Forest IndicatedForm) → node ≢ form.Record
+    → nothing ≡ skipped n (field_trees (more node text place parts next))
+no_fields n (form.Scalar s is_resolved range) text place parts next other = sym (skipped_nothing n)
+no_fields n (form.Unbounded index known) text place parts next other = sym (skipped_nothing n)
+no_fields n (form.Bounded index b known) text place parts next other = sym (skipped_nothing n)
+no_fields n form.Record text place parts next other = absurd (other refl)
+no_fields n form.Literal text place parts next other = sym (skipped_nothing n)
+
+pub none_behind : (trees : Forest IndicatedForm) (n : ℕ) → trees ≡ nothing → nothing ≡ skipped n (field_trees trees)
+none_behind trees n none = sym (skipped_nothing n) ∙ ap (λ f. skipped n (field_trees f)) (sym none)
+
+pub none_of_other : (trees : Forest IndicatedForm) (n : ℕ) (node : IndicatedForm) (text : List ℕ) (place : Place) (parts next : Forest IndicatedForm)
+    → trees ≡ more node text place parts next → node ≢ form.Record → nothing ≡ skipped n (field_trees trees)
+none_of_other trees n node text place parts next opened other =
+    no_fields n node text place parts next other ∙ ap (λ f. skipped n (field_trees f)) (sym opened)

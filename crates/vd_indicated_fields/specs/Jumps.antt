@@ -1,8 +1,9 @@
 -- Ways on in lists of trees.
 use Rattle.std.specs.Prelude.{◌≡◌, ◌+◌, ◌<◌, ◌≤◌, List, length, slice_index_or, ℕ}
-use Rattle.vd_forest.specs.Forest.{Forest, skipped}
+use Rattle.vd_forest.specs.Forest.{Forest, more, nothing, skipped}
 use Rattle.vd_forest.specs.Store.{at}
 use Rattle.vd_indicated.specs.declared.forms.IndicatedForm.{IndicatedForm}
+use Rattle.vd_indicated.specs.declared.forms.IndicatedForm.TheVariants as form
 use Rattle.vd_indicated_fields.specs.declared.jumps.Jump.{Jump}
 
 -- a jump leads from the trees with a number over so many of them
@@ -17,3 +18,8 @@ no_jump = record { over = 0; to = 0 }
 pub record AreJumps (table : List Jump) (store : List (Forest IndicatedForm)) : Type 0 where
   pub within : length table ≤ length store + 1
   pub are : (number : ℕ) → number < length table → IsJump store number (slice_index_or table number no_jump)
+
+-- the trees of a record's fields
+abbrev pub field_trees : Forest IndicatedForm → Forest IndicatedForm
+field_trees (more form.Record text place parts next) = parts
+field_trees _ = nothing

@@ -1,11 +1,11 @@
 //! The fields of record subtypes.
 
 ghost use Rattle.std.specs.Prelude.{◌≡◌, ◌<◌, ◌≤◌, IfOk, List, OnOk, length};
-ghost use Rattle.vd_forest.specs.Forest.{Forest};
+ghost use Rattle.vd_forest.specs.Forest.{Forest, skipped};
 ghost use Rattle.vd_forest.specs.Store.{at};
 ghost use Rattle.vd_indicated.specs.Indicated.{field_indicated, indicated_in};
 ghost use Rattle.vd_indicated.specs.declared.forms.IndicatedForm.{IndicatedForm as Form};
-ghost use Rattle.vd_indicated_fields.specs.Jumps.{AreJumps};
+ghost use Rattle.vd_indicated_fields.specs.Jumps.{AreJumps, field_trees};
 
 use crate::jumps::{Jump, jump_over, tree_jump};
 use std::alloc::{AllocError, Global};
@@ -53,6 +53,7 @@ impl FieldTable {
         requires subtype_in { subtype ≤ length store.now }
         requires known { AreJumps self.old.jumps.items store.now }
         ensures within { IfOk result (λ field. field ≤ length store.now) }
+        ensures found { IfOk result (λ field. at store.now field ≡ skipped number (field_trees (at store.now subtype))) }
         ensures is { IfOk result (λ field. indicated_in (at store.now field) ≡ field_indicated number (indicated_in (at store.now subtype))) }
         ensures known { AreJumps self.new.jumps.items store.now }
     {

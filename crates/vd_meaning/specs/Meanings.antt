@@ -12,13 +12,13 @@ use Rattle.vd_values.specs.declared.scalar.Scalar.TheVariants.{Literal}
 use Rattle.vd_composites.specs.Subtypes.{constrained}
 use Rattle.vd_resolved.specs.declared.node.Resolved.{Resolved}
 use Rattle.vd_environments.specs.Got.{Got, got, all_got}
-use Rattle.vd_environments.specs.Environments.{Signals, always, both, all_bounds, own_bounds, GenericActual, Env, or_senseless}
+use Rattle.vd_environments.specs.Environments.{Signals, always, both, all_bounds, GenericActual, Env, or_senseless}
 use Rattle.vd_environments.specs.Commands.{Jump, Exit, Next, Command, Skip, Choose, Each, While, Leave, in_order}
 use Rattle.vd_environments.specs.Processes.{Process}
 use Rattle.vd_meaning.specs.Tables.{Table, followed}
 use Rattle.vd_meaning.specs.Operators.{function_of, marked}
 use Rattle.vd_meaning.specs.Literals.{number, integer, physical, string}
-use Rattle.vd_meaning.specs.Names.{Named, literal_known, first_piece, stepped, to_field, attributed, attribute_named, RangeOf, call_known, number_or, name_read, and_read, position_in, unless_stopped}
+use Rattle.vd_meaning.specs.Names.{Named, literal_known, first_piece, stepped, to_field, attributed, attribute_named, RangeOf, call_known, name_bounds, number_or, name_read, and_read, position_in, unless_stopped}
 use Rattle.vd_meaning.specs.Tables.{Role, ElementRole, role_of, copies_in}
 use Rattle.vd_meaning.specs.Facets.{Meaning, no_meaning, nth, last_of, from, flattened, reads_of, targets_of, known_of, settled_of, value_of, arguments, of_node, expression, commanding, Association, ByChoices, ForOthers, Choice, FormalConstants, FormalType, FormalFunction, MapElement, Body}
 use Rattle.vd_meaning.specs.Brackets.{choice_of, choices_known, or_else, arguments_piece, qualification_piece, bracketed_value, bracketed_known}
@@ -183,7 +183,7 @@ meaning_of Kinds.OpenActual t n text ms = record (of_node n text ms) { is_open =
 meaning_of (Kinds.Limits down) t n text ms = ranging n text ms (limits down (nth 0 ms) (nth 1 ms))
 meaning_of Kinds.LimitsOfMark t n text ms =
     record (ranging n text (from 1 ms) (limits_of_mark (nth 0 ms) (nth 1 ms)))
-    { known = λ e. unless_stopped (limits_of_mark (nth 0 ms) (nth 1 ms) e) (both (own_bounds ((nth 0 ms).name.make e)) ((nth 1 ms).known e)) }
+    { known = λ e. unless_stopped (limits_of_mark (nth 0 ms) (nth 1 ms) e) (both (name_bounds (nth 0 ms).name e) ((nth 1 ms).known e)) }
 meaning_of Kinds.OpenIndex t n text ms = record (nth 0 ms) { is_open = true }
 meaning_of Kinds.MarkName t n text ms = record (of_node n text ms) { declaration = or_else n.declaration (last_of ms).declaration }
 meaning_of Kinds.Indication t n text ms = record (of_node n text ms) { indicated = indication (nth 0 ms).declaration (nth 1 ms) }

@@ -59,6 +59,10 @@ pub record Named : Type 0 where
   -- of a type or subtype itself; of an object or a part of one the subtype that is known of it
   pub subtype : Env → Got Subtype
   pub make : Env → Make
+  -- whether it is an object, a type or a part of one; and whether each slice in it has a locally static range, so that what is known of its subtype
+  -- and its bounds hangs on nothing else
+  pub is_object : Bool
+  pub local_slices : Env → Bool
   pub is_mark : Bool
   -- the type of its value
   pub mark : Option ℕ
@@ -80,6 +84,8 @@ no_name =
       shape = λ _. senseless;
       subtype = λ _. senseless;
       make = λ _. no_make;
+      is_object = false;
+      local_slices = λ _. true;
       is_mark = false;
       mark = None;
       callee = NoCallee;
@@ -172,6 +178,7 @@ constant d mark =
       shape = λ e. shape_of_value (e.denotes d).value;
       subtype = λ e. Ok (e.denotes d).subtype;
       make = λ e. (e.denotes d).make;
+      is_object = true;
       mark = mark;
       known = λ e. (e.denotes d).known;
     }
@@ -187,6 +194,7 @@ signal d mark =
       shape = λ e. or_senseless (e.denotes d).signals >>= shape_of_value;
       subtype = λ e. Ok (e.denotes d).subtype;
       make = λ e. (e.denotes d).make;
+      is_object = true;
       mark = mark;
       prefix = Some (λ e. or_senseless (e.denotes d).signals);
       is_whole = λ _. true;
@@ -208,6 +216,7 @@ mark_of d mark =
       shape = λ e. bounds_of_subtype (e.denotes d).subtype;
       subtype = λ e. Ok (e.denotes d).subtype;
       make = λ e. (e.denotes d).make;
+      is_object = true;
       is_mark = true;
       mark = mark;
       known = λ e. own_bounds (e.denotes d).make;
@@ -263,14 +272,15 @@ first_piece t n = standing t (role_of t n.declaration) (number_or n.declaration)
 
 -- ---- parts of objects and values
 
--- A step from a name to a part of what it stands for: the step, how static it is, what it reads; of the part the subtype and what it is made of, and
--- its bounds by those of the whole and its subtype.
+-- A step from a name to a part of what it stands for: the step, how static it is, what it reads; of the part the subtype and what it is made of; of a
+-- slice whether its range is locally static; and of the part its bounds by those of the whole and its subtype.
 pub record Stepping : Type 0 where
   pub to : Env → Got Step
   pub known : Env → Static
   pub inner : Env → Got (List Signals)
   pub subtype : Env → Subtype → Got Subtype
   pub make : Env → Make → Make
+  pub local_slices : Env → Bool
   pub shape : Env → Got Bounds → Subtype → Got Bounds
 
 abbrev pub part_value : Option (Env → Got Signals) → (Env → Got Signals) → (Env → Got (Value Scalar)) → Env → Got (Value Scalar)
@@ -315,6 +325,8 @@ stepped s mark p =
       shape = λ e. shape_behind (p.subtype e) s (p.shape e) (part_of_value p s) e;
       subtype = λ e. p.subtype e >>= s.subtype e;
       make = λ e. s.make e (p.make e);
+      is_object = p.is_object;
+      local_slices = λ e. p.local_slices e && s.local_slices e;
       mark = mark;
       known = λ e. only_global (both (p.known e) (s.known e));
       prefix = part_prefix p s p.prefix;
@@ -330,6 +342,7 @@ to_field n =
       inner = λ _. Ok [];
       subtype = λ _ s. field_subtype n s;
       make = λ _ m. field_make n m;
+      local_slices = λ _. true;
       shape = λ _ _ s. field_subtype n s >>= bounds_of_subtype;
     }
 
@@ -342,6 +355,7 @@ to_element index known inner =
       inner = inner;
       subtype = λ _ s. element_of_subtype s;
       make = λ _ m. element_make m;
+      local_slices = λ _. true;
       shape = λ _ _ s. element_of_subtype s >>= bounds_of_subtype;
     }
 
@@ -357,6 +371,7 @@ to_slice range known inner =
       inner = inner;
       subtype = λ e s. range e >>= λ b. sliced_subtype b s;
       make = λ e m. sliced_make (known e) m;
+      local_slices = λ e. (known e).is_local;
       shape = λ e whole _. whole >>= λ w. range e >>= sliced_bounds w;
     }
 
@@ -409,13 +424,14 @@ range_value backwards index p e = p.shape e >>= λ b. scalar_type index e >>= λ
 abbrev pub event_value : Named → Env → Got (Value Scalar)
 event_value p e = p.signals e >>= λ s. Ok (truth (list_any (λ x. is_some (e.view.before x.number)) (leaves s)))
 
--- Attributes of bounds are as static as the bounds: those of a type or object, or else the value must be locally static.
-abbrev pub is_object : Option (Env → Got Signals) → (Env → Got Subtype) → Env → Bool
-is_object prefix subtype e = is_some prefix || is_got (subtype e)
+-- The bounds of a name are locally static only where those of each slice in it are: else it hangs on these whether its evaluation stops.
+abbrev pub name_bounds : Named → Env → Static
+name_bounds p e = record (own_bounds (p.make e)) { is_local = (own_bounds (p.make e)).is_local && p.local_slices e }
 
+-- Attributes of bounds are as static as the bounds: those of a type or object, or else the value must be locally static.
 abbrev pub bounds_known : Named → Env → Static
 bounds_known p e =
-    if is_object p.prefix p.subtype e then own_bounds (p.make e)
+    if p.is_object then name_bounds p e
     else record { is_local = (p.known e).is_local; is_global = (p.known e).is_local && (p.known e).is_global }
 
 -- a name with an attribute

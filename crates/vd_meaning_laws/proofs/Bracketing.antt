@@ -80,6 +80,8 @@ module _ (l : Link) (numbers : IsApart l) (t t' : Table) (tables : SameTable l t
         shape = x.shape;
         subtype = x.subtype;
         make = x.make;
+        is_object = x.is_object;
+        local_slices = x.local_slices;
         is_mark = x.is_mark;
         mark = x.mark;
         callee = x.callee;
@@ -131,6 +133,7 @@ module _ (l : Link) (numbers : IsApart l) (t t' : Table) (tables : SameTable l t
         inner = first_alike.reads;
         subtype = λ e k. refl;
         make = λ e k. refl;
+        local_slices = λ e k. refl;
         shape = λ e k. refl;
       }
 
@@ -142,6 +145,7 @@ module _ (l : Link) (numbers : IsApart l) (t t' : Table) (tables : SameTable l t
         inner = first_alike.reads;
         subtype = λ e k i s. a e k i >>= λ b. sliced_subtype b s;
         make = λ e k i m. sliced_make (first_alike.known e k i) m;
+        local_slices = λ e k i. (first_alike.known e k i).is_local;
         shape = λ e k i whole s. whole >>= λ w. a e k i >>= sliced_bounds w;
       }
 

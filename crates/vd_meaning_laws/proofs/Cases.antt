@@ -9,7 +9,7 @@ use Rattle.vd_composites.specs.Stops.{◌>>=◌}
 use Rattle.vd_composites.specs.Composites.{Value}
 use Rattle.vd_resolved.specs.declared.node.Resolved.{Resolved}
 use Rattle.vd_environments.specs.Got.{Got}
-use Rattle.vd_environments.specs.Environments.{always, both, own_bounds, all_bounds, Env, unknown}
+use Rattle.vd_environments.specs.Environments.{always, both, all_bounds, Env, unknown}
 use Rattle.vd_environments.specs.Commands.{Command, Each}
 use Rattle.vd_meaning.specs.Tables.{Table, Role, ConstantRole, VariableRole, SignalRole, LiteralRole, FunctionRole, MarkRole, ElementRole, NoRole, role_of, followed, copies_in}
 use Rattle.vd_meaning.specs.Operators.{function_of, marked}
@@ -25,7 +25,7 @@ use Rattle.vd_meaning_laws.specs.Agreement.{Link, IsApart, through, Alike, numbe
 use Rattle.vd_meaning_laws.specs.Renumbering.{SameTable, AlikeName, AlikeStepping, AlikeWaveform, AlikeObjects, AlikeMeaning, renumbered, pair_in, TreesAlike}
 use Rattle.vd_meaning_laws.proofs.Agreeing.{skips_alike, choices_alike, loops_alike, whiles_alike}
 use Rattle.vd_meaning_laws.proofs.Naming.{first_piece_alike, number_or_same, literal_known_same, function_same, calls_known_same}
-use Rattle.vd_meaning_laws.proofs.Stepping.{stepped_alike, attributed_alike}
+use Rattle.vd_meaning_laws.proofs.Stepping.{stepped_alike, attributed_alike, name_bounds_alike}
 use Rattle.vd_meaning_laws.proofs.Parts.{nth_alike, from_alike, none_alike, known_alike, reads_alike, targets_alike, choices_known_alike}
 use Rattle.vd_meaning_laws.proofs.Parts.{choices_alike as choice_list_alike}
 use Rattle.vd_meaning_laws.proofs.Instancing.{map_elements_alike, between_alike, functions_alike, instance_alike}
@@ -44,7 +44,7 @@ module _ (l : Link) (numbers : IsApart l) (t t' : Table) (tables : SameTable l t
   -- ---- pieces and expressions
 
   to_alike : (position : ℕ) → AlikeStepping l (to_field position) (to_field position)
-  to_alike position = record { to = λ e k. refl; known = λ e k. refl; inner = λ e k. refl; subtype = λ e k. refl; make = λ e k. refl; shape = λ e k. refl }
+  to_alike position = record { to = λ e k. refl; known = λ e k. refl; inner = λ e k. refl; subtype = λ e k. refl; make = λ e k. refl; local_slices = λ e k. refl; shape = λ e k. refl }
 
   selection_alike : (r : Role) (n : Resolved) (p q : Named) → AlikeName l p q → AlikeName l (selection_piece r t n p) (selection_piece r t' (renumbered l n) q)
   selection_alike ElementRole n p q a = stepped_alike l numbers (to_field n.position) (to_field n.position) (to_alike n.position) p q a n.mark
@@ -233,7 +233,7 @@ module _ (l : Link) (numbers : IsApart l) (t t' : Table) (tables : SameTable l t
     kind_alike Kinds.OpenActual n text = Facing.with_is_open l (Nodes.node_alike l numbers n text ms ns h) _ _ refl
     kind_alike (Kinds.Limits down) n text = Nodes.ranging_alike l numbers n text ms ns h _ _ (Nodes.limits_alike l numbers down _ _ _ _ (part 0) (part 1))
     kind_alike Kinds.LimitsOfMark n text = Facing.with_known l (Nodes.ranging_alike l numbers n text (from 1 ms) (from 1 ns) (parts_from 1) _ _ (Nodes.in_mark_alike l numbers _ _ _ _ (part 0) (part 1)))
-        _ _ (λ e k i. unless_stopped (Nodes.in_mark_alike l numbers _ _ _ _ (part 0) (part 1) e k i) (both (own_bounds ((part 0).name.make e k i)) ((part 1).known e k i)))
+        _ _ (λ e k i. unless_stopped (Nodes.in_mark_alike l numbers _ _ _ _ (part 0) (part 1) e k i) (both (name_bounds_alike l numbers (nth 0 ms).name (nth 0 ns).name (part 0).name e k i) ((part 1).known e k i)))
     kind_alike Kinds.OpenIndex n text = Facing.with_is_open l (part 0) _ _ refl
     kind_alike Kinds.MarkName n text = Facing.with_declaration l (Nodes.node_alike l numbers n text ms ns h) _ _ (Nodes.mark_named_same l numbers n ms ns h)
     kind_alike Kinds.Indication n text = Facing.with_indicated l (Nodes.node_alike l numbers n text ms ns h) _ _

@@ -26,6 +26,8 @@ module _ (l : Link) (numbers : IsApart l) where
         shape = λ e k. refl;
         subtype = λ e k. refl;
         make = λ e k. refl;
+        is_object = refl;
+        local_slices = λ e k. refl;
         is_mark = refl;
         mark = refl;
         callee = refl;
@@ -47,6 +49,8 @@ module _ (l : Link) (numbers : IsApart l) where
         shape = λ e k i. x e k i >>= shape_of_value;
         subtype = λ e k. refl;
         make = λ e k. refl;
+        is_object = refl;
+        local_slices = λ e k. refl;
         is_mark = refl;
         mark = refl;
         callee = refl;
@@ -66,6 +70,8 @@ module _ (l : Link) (numbers : IsApart l) where
         shape = λ e k. refl;
         subtype = λ e k. refl;
         make = λ e k. refl;
+        is_object = refl;
+        local_slices = λ e k. refl;
         is_mark = refl;
         mark = refl;
         callee = refl;
@@ -85,6 +91,8 @@ module _ (l : Link) (numbers : IsApart l) where
         shape = λ e k. refl;
         subtype = λ e k. refl;
         make = λ e k. refl;
+        is_object = refl;
+        local_slices = λ e k. refl;
         is_mark = refl;
         mark = refl;
         callee = refl;
@@ -104,6 +112,8 @@ module _ (l : Link) (numbers : IsApart l) where
         shape = λ e k. refl;
         subtype = λ e k. refl;
         make = λ e k. refl;
+        is_object = refl;
+        local_slices = λ e k. refl;
         is_mark = refl;
         mark = refl;
         callee = refl;
@@ -123,6 +133,8 @@ module _ (l : Link) (numbers : IsApart l) where
         shape = λ e k. refl;
         subtype = λ e k. refl;
         make = λ e k. refl;
+        is_object = refl;
+        local_slices = λ e k. refl;
         is_mark = refl;
         mark = refl;
         callee = refl;
@@ -146,6 +158,8 @@ module _ (l : Link) (numbers : IsApart l) where
         shape = λ e k. refl;
         subtype = λ e k. refl;
         make = λ e k. refl;
+        is_object = refl;
+        local_slices = λ e k. refl;
         is_mark = refl;
         mark = refl;
         callee = refl;

@@ -10,7 +10,7 @@ use Rattle.vd_composites.specs.Subtypes.{Subtype, Scalars, Arrays, Records}
 use Rattle.vd_operators.specs.declared.attributes.Side.{Side}
 use Rattle.vd_environments.specs.Got.{Got, got, senseless, is_got}
 use Rattle.vd_environments.specs.Environments.{Signals, read, never, both, only_global, is_static, own_bounds, Env, Place, further}
-use Rattle.vd_meaning.specs.Names.{Named, Stepping, part_value, shape_behind, shape_of_value, where_signal, goes_on, part_signals, part_of_value, part_prefix, part_place, stepped, no_name, Attribute, BoundAt, LengthOf, RangeOf, EventOf, OfType, NoAttribute, attributed, bound_value, bound_of_mark, bound_of_array, length_value, range_value, event_value, bounds_known, attribute_read, prefix_read, unless_out, unless_stopped, and_read, scalar_type, name_read}
+use Rattle.vd_meaning.specs.Names.{Named, Stepping, part_value, shape_behind, shape_of_value, where_signal, goes_on, part_signals, part_of_value, part_prefix, part_place, stepped, no_name, Attribute, BoundAt, LengthOf, RangeOf, EventOf, OfType, NoAttribute, attributed, bound_value, bound_of_mark, bound_of_array, length_value, range_value, event_value, bounds_known, name_bounds, attribute_read, prefix_read, unless_out, unless_stopped, and_read, scalar_type, name_read}
 use Rattle.vd_meaning_laws.specs.Agreement.{Link, IsApart, through, Keeps, Alike, number_in}
 use Rattle.vd_meaning_laws.specs.Renumbering.{AlikeOption, place_in, AlikeName, AlikeStepping}
 use Rattle.vd_meaning_laws.proofs.Naming.{no_name_alike, fresh_alike}
@@ -73,6 +73,8 @@ module _ (l : Link) (numbers : IsApart l) where
           shape = λ e k. (λ i. shape_behind (h.subtype e k i) s' (h.shape e k i) (part_of_value q s') e) ∙ shape_by (p.subtype (through l e)) (p.shape (through l e)) e k;
           subtype = λ e k i. h.subtype e k i >>= a.subtype e k i;
           make = λ e k i. a.make e k i (h.make e k i);
+          is_object = h.is_object;
+          local_slices = λ e k i. h.local_slices e k i && a.local_slices e k i;
           is_mark = refl;
           mark = refl;
           callee = refl;
@@ -133,6 +135,10 @@ module _ (l : Link) (numbers : IsApart l) where
   mark_bound_of side m e p (Arrays index bounds element) = refl
   mark_bound_of side m e p (Records fields) = refl
 
+  pub name_bounds_alike : (p q : Named) → AlikeName l p q → Alike l (name_bounds p) (name_bounds q)
+  name_bounds_alike p q h e k =
+      λ i. record (own_bounds (h.make e k i)) { is_local = (own_bounds (h.make e k i)).is_local && h.local_slices e k i }
+
   module _ (p q : Named) (h : AlikeName l p q) where
     mark_bound_alike : (side : Side) (m : Option ℕ) (s : Subtype) (e : Env) → Keeps l e → bound_of_mark side (number_in l m) e q s ≡ bound_of_mark side m (through l e) p s
     mark_bound_alike side m s e k =
@@ -157,7 +163,7 @@ module _ (l : Link) (numbers : IsApart l) where
 
     bounds_alike : Alike l (bounds_known p) (bounds_known q)
     bounds_alike e k =
-        λ i. if some_same p.prefix q.prefix h.prefix i || is_got (h.subtype e k i) then own_bounds (h.make e k i)
+        λ i. if h.is_object i then name_bounds_alike p q h e k i
         else record { is_local = (h.known e k i).is_local; is_global = (h.known e k i).is_local && (h.known e k i).is_global }
 
     pub attributed_alike : (a : Attribute) (m : Option ℕ) → AlikeName l (attributed a m p) (attributed a (number_in l m) q)
@@ -173,6 +179,8 @@ module _ (l : Link) (numbers : IsApart l) where
           shape = λ e k. refl;
           subtype = λ e k. refl;
           make = λ e k. refl;
+          is_object = refl;
+          local_slices = λ e k. refl;
           is_mark = refl;
           mark = refl;
           callee = refl;
@@ -192,6 +200,8 @@ module _ (l : Link) (numbers : IsApart l) where
           shape = h.shape;
           subtype = h.subtype;
           make = h.make;
+          is_object = h.is_object;
+          local_slices = h.local_slices;
           is_mark = refl;
           mark = refl;
           callee = refl;

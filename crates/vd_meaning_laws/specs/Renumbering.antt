@@ -63,6 +63,8 @@ pub record AlikeName (l : Link) (p q : Named) : Type 0 where
   pub shape : Alike l p.shape q.shape
   pub subtype : Alike l p.subtype q.subtype
   pub make : Alike l p.make q.make
+  pub is_object : q.is_object ≡ p.is_object
+  pub local_slices : Alike l p.local_slices q.local_slices
   pub is_mark : q.is_mark ≡ p.is_mark
   pub mark : q.mark ≡ number_in l p.mark
   pub callee : q.callee ≡ p.callee
@@ -77,6 +79,7 @@ pub record AlikeStepping (l : Link) (s t : Stepping) : Type 0 where
   pub inner : Alike l s.inner t.inner
   pub subtype : Alike l s.subtype t.subtype
   pub make : Alike l s.make t.make
+  pub local_slices : Alike l s.local_slices t.local_slices
   pub shape : Alike l s.shape t.shape
 
 pub record AlikeWaveform (l : Link) (w x : Waveform) : Type 0 where

@@ -1,17 +1,12 @@
 -- What is asked of ports with views. No name has a dash, so that a caller can name each in `#[tactic(auto, using(..))]`.
-use Rattle.std.proofs.Common.{◌≡◌, ◌&&◌, ℕ, Bool, true, false, [], Option, None, refl, sym, ap, ◌∙◌}
+use Rattle.std.proofs.Common.{◌≡◌, ◌&&◌, Bool, true, false, [], Option, None, refl, sym, ap, ◌∙◌}
 use Rattle.std.specs.List.{filter}
 use Rattle.vd_bytes.specs.declared.answers.Refused.{Refused}
 use Rattle.vd_bytes.specs.declared.places.Place.{Place}
-use Rattle.vd_forest.specs.Forest.{Forest, skipped}
+use Rattle.vd_forest.specs.Forest.{Forest}
 use Rattle.vd_forms.specs.declared.form.Form.{Form}
 use Rattle.vd_least.specs.Least.{least}
-use Rattle.vd_meaning.specs.Facets.{nth}
-use Rattle.vd_meaning.specs.Meanings.{meanings}
-use Rattle.vd_meaning.specs.Tables.{Table}
 use Rattle.vd_name_rules.specs.Judges.{view_judge}
-use Rattle.vd_port_lists.proofs.PieceLemmas.{nth_skipped}
-use Rattle.vd_port_lists.specs.Pieces.{declared_first, present_first}
 use Rattle.vd_port_modes.specs.Source.{Source, design_in}
 use Rattle.vd_resolved.specs.Trees.{ResolvedTree}
 use Rattle.vd_resolved.specs.declared.node.Resolved.{Resolved}
@@ -26,18 +21,6 @@ use Rattle.vd_value_rules.specs.Knowledge.{meaning_at}
 use Rattle.vd_value_rules.specs.Names.{are_other_types, broken_view_port, subtype_mark, view_type}
 use Rattle.vd_value_rules.specs.Standings.{beginning}
 use Rattle.vd_forms.specs.declared.form.Form.TheVariants as form
-
-pub declared_part : (t : Table) (k : ℕ) (f : Forest Resolved) → declared_first t (skipped k f) ≡ (nth k (meanings t f)).declaration
-unfolding declared_first
-declared_part t k f = sym (ap (λ m. m.declaration) (nth_skipped t k f))
-
-pub declared_inside : (t : Table) (f : Forest Resolved) → declared_first t f ≡ (nth 0 (meanings t f)).declaration
-unfolding declared_first
-declared_inside t f = refl
-
-pub present_part : (t : Table) (k : ℕ) (f : Forest Resolved) → present_first t (skipped k f) ≡ (nth k (meanings t f)).is_present
-unfolding present_first
-present_part t k f = sym (ap (λ m. m.is_present) (nth_skipped t k f))
 
 of_names_alone : (b : Bool) (place : Place) → filter is_of_rules (refused_if b place 308) ≡ []
 of_names_alone true place = refl

@@ -3,7 +3,6 @@
 
 pub mod coming;
 pub mod names;
-mod refusing;
 pub mod rows;
 pub mod views;
 

@@ -8,7 +8,6 @@ ghost use Rattle.vd_port_modes.specs.Source.{design_in};
 ghost use Rattle.vd_rule_groups.specs.Groups.{firsts_by, names_used};
 
 use crate::coming::{Coming, Sort, all_of, behind, coming_by};
-use crate::refusing::refused_if;
 use crate::rows::row_of;
 use std::alloc::{AllocError, Global};
 use vd_bytes::{Place, Refused};
@@ -19,7 +18,7 @@ use vd_port_modes::Interfaces;
 use vd_port_modes::places::{may_be_assigned, names_view_port, reads_out};
 use vd_port_modes::reaching::{Reached, reached_by};
 use vd_resolved::{Resolved, Tree};
-use vd_rule_groups::Firsts;
+use vd_rule_groups::{Firsts, refused_if};
 use vd_trees::Revision;
 
 /// A port with a view that is named by itself.

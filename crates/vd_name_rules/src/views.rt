@@ -9,18 +9,17 @@ ghost use Rattle.vd_value_rules.specs.Choices.{place_at as place_of_part};
 ghost use Rattle.vd_value_rules.specs.Knowledge.{meaning_at};
 ghost use Rattle.vd_value_rules.specs.Names.{are_other_types as other_types, broken_view_port as is_broken_view_port, subtype_mark as mark_of_subtype, type_of_mark as type_is_of_mark, view_type as type_of_view};
 
-use crate::refusing::refused_if;
 use std::alloc::{AllocError, Global};
 use vd_bytes::{Place, Refused};
 use vd_declarations::DeclId;
+use vd_facets::{declaration_of, is_present};
 use vd_forest::{Cursor, Opened};
 use vd_forms::Form;
 use vd_least::{Judging, find_least};
 use vd_operations::tables::mark_of;
-use vd_port_lists::{declaration_of, is_present};
 use vd_port_modes::Interfaces;
 use vd_resolved::{Resolved, Tree};
-use vd_rule_groups::Firsts;
+use vd_rule_groups::{Firsts, refused_if};
 use vd_trees::Revision;
 
 /// The place of a part; the first place where there is none.

@@ -13,6 +13,7 @@ use vd_declarations::{DeclId, TypeId};
 use vd_forest::{Cursor, Opened};
 use vd_forms::Form;
 use vd_given::numbers::{BOOLEAN, STANDARD, STD_LOGIC_1164};
+use vd_name_goals::possible_states;
 use vd_readings::Language;
 use vd_refusals::first_refusal;
 use vd_sights::Surroundings;
@@ -61,6 +62,15 @@ impl<'a> Setting for Env<'a> {
 
     fn is_discrete(&self, mark: TypeId) -> bool {
         is_discrete(self.surroundings.class_of(DeclId::of(mark.number())))
+    }
+
+    fn possible(
+        &self,
+        alloc: Global,
+        tree: &Cursor<'_, Form>,
+        states: Vec<State>,
+    ) -> Result<Vec<State>, AllocError> {
+        possible_states(alloc, &self.surroundings, tree, states)
     }
 
     fn operators(&self, alloc: Global) -> Result<Vec<DeclId>, AllocError> {

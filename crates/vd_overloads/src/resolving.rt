@@ -145,7 +145,8 @@ fn interpret<S: Setting>(
     ensures found { IfOk result (λ found. IsFound out.new found (interpretations (S.rules setting.now) (S.scene setting.now) wanted.now tree.now)) }
     ensures extends { Extends out.old out.new }
 {
-    let states = states_of(alloc, setting, wanted)?;
+    let wanted_states = states_of(alloc, setting, wanted)?;
+    let states = setting.possible(alloc, tree, wanted_states)?;
     let found = read(alloc, setting, tree, &states, out)?;
     match wanted {
         Wanted::Condition => match found {

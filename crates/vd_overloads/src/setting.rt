@@ -2,6 +2,7 @@
 
 ghost use Rattle.std.specs.Prelude.{◌≡◌, IfOk};
 ghost use Rattle.vd_overloads.specs.Interpretations.{Scene};
+ghost use Rattle.vd_readings.specs.Readings.{readings_in};
 
 use crate::wanted::Wanted;
 use std::alloc::{AllocError, Global};
@@ -10,6 +11,7 @@ use vd_declarations::{DeclId, TypeId};
 use vd_forest::Cursor;
 use vd_forms::Form;
 use vd_readings::Language;
+use vd_states::State;
 use vd_trees::Revision;
 
 /// A place of a design, with what is known there, and the language by which expressions are read there.
@@ -27,6 +29,15 @@ pub trait Setting: Language {
     /// Whether a type is discrete.
     fn is_discrete(&self, mark: TypeId) -> bool
         ensures { result ≡ (scene self.now).is_discrete mark };
+
+    /// Some of these states, among them each in which an expression has a reading.
+    fn possible(
+        &self,
+        alloc: Global,
+        tree: &Cursor<'_, Form>,
+        states: Vec<State>,
+    ) -> Result<Vec<State>, AllocError>
+        ensures { IfOk result (λ found. readings_in (Self.rules self.now) tree.now found.items ≡ readings_in (Self.rules self.now) tree.now states.items) };
 
     /// The operators `??` that can be implied in a condition.
     fn operators(&self, alloc: Global) -> Result<Vec<DeclId>, AllocError>

@@ -1,5 +1,5 @@
 -- Operators on operands that have been evaluated.
-use Rattle.std.proofs.Common.{◌≡◌, ◌<◌, ◌≤◌, ℕ, ◌+◌, Bool, true, false, List, [], ◌∷◌, ◌++◌, length, drop, get_or, Option, refl, sym, ap, subst, ◌∙◌, arith, drop_of_length-le}
+use Rattle.std.proofs.Common.{◌≡◌, ◌<◌, ◌≤◌, ℕ, ◌+◌, Bool, true, false, List, [], ◌∷◌, ◌++◌, length, drop, get_or, None, Option, Some, refl, sym, ap, subst, ◌∙◌, arith, drop_of_length-le}
 use Rattle.std.specs.Prelude.{Result, Ok, Err, IfOk, if◌then◌else◌}
 use Rattle.std.proofs.lemmas.List.{drop_more, append-nil, append_assoc}
 use Rattle.vd_values.specs.declared.scalar.Scalar.{Scalar}
@@ -7,6 +7,7 @@ use Rattle.vd_values.specs.declared.scalar.StopKind.{StopKind}
 use Rattle.vd_values.specs.declared.logic.Logic.{Logic}
 use Rattle.vd_composites.specs.Stops.{OrStop, ◌>>=◌}
 use Rattle.vd_composites.specs.Composites.{Value}
+use Rattle.vd_composites.specs.Subtypes.{Subtype}
 use Rattle.vd_vectors.specs.declared.logics.LogicType.TheVariants.{TwoValued}
 use Rattle.vd_vectors.specs.declared.logical.LogicalOperator.{LogicalOperator}
 use Rattle.vd_vectors.specs.Logics.{logic_in, truth}
@@ -17,8 +18,8 @@ use Rattle.vd_operators.specs.Applied.{applied}
 use Rattle.vd_subtypes.specs.declared.operands.OperandKind.{OperandKind}
 use Rattle.vd_environments.specs.Got.{Got, got}
 use Rattle.vd_environments.specs.Environments.{Env, Argument, unknown}
-use Rattle.vd_meaning.specs.Operators.{Apply, Join, TruthText, operate, arguments_of, lazily, decides, decided}
-use Rattle.vd_plain_values.specs.Operands.{all_found, AreArguments, lazily_from, undecided, on_values, on_operands}
+use Rattle.vd_meaning.specs.Operators.{Apply, Edge, Join, Lazily, NoOperation, Operation, TruthText, operate, arguments_of, lazily, decides, decided}
+use Rattle.vd_plain_values.specs.Operands.{all_found, AreArguments, lazily_from, undecided, on_values, on_operands, operate_on, result_subtype}
 
 -- ---- all of some operands
 
@@ -71,14 +72,25 @@ arguments_got (a ∷ as') (r ∷ rs) are =
     ∙ ap (λ h. got r >>= λ x. h >>= λ xs. Ok (x ∷ xs)) (arguments_got as' rs are.1)
     ∙ step_of r (all_found rs)
 
-pub applied_strictly : (op : Op) (result : Option ℕ) (e : Env) (as' : List Argument) (rs : List (OrStop (Value Scalar))) → AreArguments as' rs → operate (Apply op) result e as' ≡ on_operands (Apply op) result e rs
-applied_strictly op result e as' rs are = ap (λ g. g >>= on_values (Apply op) result e) (arguments_got as' rs are)
+pub applied_strictly : (op : Op) (s : Subtype) (as' : List Argument) (rs : List (OrStop (Value Scalar))) → AreArguments as' rs → operate_on (Apply op) s as' ≡ on_operands (Apply op) s rs
+applied_strictly op s as' rs are = ap (λ g. g >>= on_values (Apply op) s) (arguments_got as' rs are)
 
-pub joined_strictly : (l r : OperandKind) (result : Option ℕ) (e : Env) (as' : List Argument) (rs : List (OrStop (Value Scalar))) → AreArguments as' rs → operate (Join l r) result e as' ≡ on_operands (Join l r) result e rs
-joined_strictly l r result e as' rs are = ap (λ g. g >>= on_values (Join l r) result e) (arguments_got as' rs are)
+pub joined_strictly : (l r : OperandKind) (s : Subtype) (as' : List Argument) (rs : List (OrStop (Value Scalar))) → AreArguments as' rs → operate_on (Join l r) s as' ≡ on_operands (Join l r) s rs
+joined_strictly l r s as' rs are = ap (λ g. g >>= on_values (Join l r) s) (arguments_got as' rs are)
 
-pub text_strictly : (result : Option ℕ) (e : Env) (as' : List Argument) (rs : List (OrStop (Value Scalar))) → AreArguments as' rs → operate TruthText result e as' ≡ on_operands TruthText result e rs
-text_strictly result e as' rs are = ap (λ g. g >>= on_values TruthText result e) (arguments_got as' rs are)
+pub text_strictly : (s : Subtype) (as' : List Argument) (rs : List (OrStop (Value Scalar))) → AreArguments as' rs → operate_on TruthText s as' ≡ on_operands TruthText s rs
+text_strictly s as' rs are = ap (λ g. g >>= on_values TruthText s) (arguments_got as' rs are)
+
+-- ---- the subtype of the result
+
+pub operate_at : (op : Operation) (result : Option ℕ) (e : Env) (as' : List Argument) → operate op result e as' ≡ operate_on op (result_subtype result e) as'
+operate_at (Apply op) result e as' = refl
+operate_at (Lazily o) result e as' = refl
+operate_at (Join l r) None e as' = refl
+operate_at (Join l r) (Some n) e as' = refl
+operate_at TruthText result e as' = refl
+operate_at (Edge rising) result e as' = refl
+operate_at NoOperation result e as' = refl
 
 -- ---- lazy operators
 

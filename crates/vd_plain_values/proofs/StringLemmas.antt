@@ -76,7 +76,8 @@ each_by_head s none = refl
 each_by_head s (item v vs) =
     (λ i. fits_by_head s v i >>= λ w. fit_each s vs >>= λ ws. Ok (item w ws)) ∙ ap (λ g. fit_head (head_of s) v >>= λ w. g >>= λ ws. Ok (item w ws)) (each_by_head s vs)
 
-positional_same : (s : Subtype) (ns : List ℕ) → positional s (items_of (literals_at ns)) ≡ array_by (array_in s) ns
+-- an array from literals, by its head
+pub positional_same : (s : Subtype) (ns : List ℕ) → positional s (items_of (literals_at ns)) ≡ array_by (array_in s) ns
 positional_same (Scalars s) ns = refl
 positional_same (Arrays index bounds element) ns = ap (λ g. g >>= array_on index) (each_by_head element (items_of (literals_at ns)))
 positional_same (Records fields) ns = refl

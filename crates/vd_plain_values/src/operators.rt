@@ -2,16 +2,17 @@
 
 ghost use Rattle.std.specs.Prelude.{◌≡◌, ◌∷◌, [], IfOk, List, codes, if◌then◌else◌};
 ghost use Rattle.vd_composites.specs.Answers.{Answers};
+ghost use Rattle.vd_composites.specs.Subtypes.{Subtype};
 ghost use Rattle.vd_environments.specs.Got.{got};
 ghost use Rattle.vd_environments.specs.Environments.{Argument, Env};
-ghost use Rattle.vd_meaning.specs.Operators.{decided as decided_value, decides as decides_it, lazily as lazily_of, operate as operate_on, truth_in, truth_text as truth_text_of};
+ghost use Rattle.vd_meaning.specs.Operators.{decided as decided_value, decides as decides_it, lazily as lazily_of, joining, operate as operate_in_environment, truth_in, truth_text as truth_text_of};
 ghost use Rattle.vd_operators.specs.Texts.{text as text_of};
 ghost use Rattle.vd_operations.specs.Readings.{read_operation};
-ghost use Rattle.vd_plain_values.specs.Plain.{Holds};
-ghost use Rattle.vd_plain_values.specs.Operands.{AreArguments, AreFound, all_found, joined_by, lazily_from as lazily_with, on_operands, on_values, undecided as undecided_from};
+ghost use Rattle.vd_plain_values.specs.Plain.{Holds, array_in};
+ghost use Rattle.vd_plain_values.specs.Operands.{AreArguments, AreFound, all_found, lazily_from as lazily_with, on_operands, on_values, operate_on as operate_of_subtype, result_subtype, undecided as undecided_from};
 
 use crate::answers::settled;
-use crate::environment::{Entry, array_head, subtype_of};
+use crate::environment::{ArrayHead, Entry, array_head, subtype_of};
 use std::alloc::{AllocError, Global};
 use vd_composites::{Bounds, Value, ValueEnd};
 use vd_declarations::TypeId;
@@ -113,24 +114,17 @@ fn lazily(
     }
 }
 
-/// `&` of the array type that an entry has.
+/// `&` of an array type.
 fn join(
     alloc: Global,
-    environment: &[Entry<'_>],
-    of_result: Option<TypeId>,
+    array: Option<ArrayHead>,
     l: OperandKind,
     r: OperandKind,
     values: &[Value],
 ) -> Result<Result<Value, StopKind>, AllocError>
-    ensures { (e : Env) → Holds environment.now e → IfOk result (λ x. joined_by l r of_result e values.now ≡ got x) }
+    ensures { (s : Subtype) → array_in s ≡ array → IfOk result (λ x. joining l r s values.now ≡ got x) }
 {
-    let Some(mark) = of_result else {
-        return Ok(Err(StopKind::Range));
-    };
-    let Some(subtype) = subtype_of(environment, mark.number()) else {
-        return Ok(Err(StopKind::Range));
-    };
-    let Some(array) = array_head(&subtype)? else {
+    let Some(array) = array else {
         return Ok(Err(StopKind::Range));
     };
     let op = Op::Binary(BinaryOp::Concatenation(array.index, array.element, l, r));
@@ -138,7 +132,7 @@ fn join(
 }
 
 /// A text as a value of STRING.
-fn text(alloc: Global, codes: &[u8]) -> Result<Value, ValueEnd>
+pub fn text(alloc: Global, codes: &[u8]) -> Result<Value, ValueEnd>
     ensures { Answers result (text_of codes.now) }
 {
     let Ok(length) = i64::try_from(codes.len()) else {
@@ -194,16 +188,15 @@ fn truth_text(alloc: Global, value: &Value) -> Result<Result<Value, StopKind>, A
 /// `&`, or `to_string` of BOOLEAN.
 fn operate_on_all(
     alloc: Global,
-    environment: &[Entry<'_>],
+    array: Option<ArrayHead>,
     operation: &Operation,
-    of_result: Option<TypeId>,
     values: &[Value],
 ) -> Result<Result<Value, StopKind>, AllocError>
-    ensures { (e : Env) → Holds environment.now e → IfOk result (λ r. on_values (read_operation operation.now) of_result e values.now ≡ got r) }
+    ensures { (s : Subtype) → array_in s ≡ array → IfOk result (λ r. on_values (read_operation operation.now) s values.now ≡ got r) }
 {
     match operation {
         Operation::Apply(op) => settled(apply(alloc, op, values)),
-        Operation::Join(l, r) => join(alloc, environment, of_result, *l, *r, values),
+        Operation::Join(l, r) => join(alloc, array, *l, *r, values),
         Operation::TruthText => match values {
             [value] => truth_text(alloc, value),
             _ => Ok(Err(StopKind::Range)),
@@ -215,16 +208,51 @@ fn operate_on_all(
 /// What is done with operands of which all are evaluated.
 fn strictly(
     alloc: Global,
-    environment: &[Entry<'_>],
+    array: Option<ArrayHead>,
     operation: &Operation,
-    of_result: Option<TypeId>,
     operands: &[Result<Value, StopKind>],
 ) -> Result<Result<Value, StopKind>, AllocError>
-    ensures { (e : Env) → Holds environment.now e → IfOk result (λ r. on_operands (read_operation operation.now) of_result e operands.now ≡ got r) }
+    ensures { (s : Subtype) → array_in s ≡ array → IfOk result (λ r. on_operands (read_operation operation.now) s operands.now ≡ got r) }
 {
     match all(alloc, operands)? {
-        Ok(values) => operate_on_all(alloc, environment, operation, of_result, &values),
+        Ok(values) => operate_on_all(alloc, array, operation, &values),
         Err(kind) => Ok(Err(kind)),
+    }
+}
+
+/// What an operator or a given function gives for its operands, where its result is of a subtype that is this array subtype, or none.
+pub fn operate_on(
+    alloc: Global,
+    array: Option<ArrayHead>,
+    operation: &Operation,
+    operands: &[Result<Value, StopKind>],
+) -> Result<Result<Value, StopKind>, AllocError>
+    ensures { (s : Subtype) → array_in s ≡ array → (as' : List Argument) → AreArguments as' operands.now
+        → IfOk result (λ r. operate_of_subtype (read_operation operation.now) s as' ≡ got r) }
+{
+    match operation {
+        Operation::Lazily(operator) => lazily(alloc, *operator, operands),
+        Operation::Edge(_) => Ok(Err(StopKind::Range)),
+        Operation::Nothing => Ok(Err(StopKind::Range)),
+        Operation::Apply(_) => strictly(alloc, array, operation, operands),
+        Operation::Join(_, _) => strictly(alloc, array, operation, operands),
+        Operation::TruthText => strictly(alloc, array, operation, operands),
+    }
+}
+
+/// The array subtype that the subtype of a result is.
+fn result_array(
+    environment: &[Entry<'_>],
+    of_result: Option<TypeId>,
+) -> Result<Option<ArrayHead>, AllocError>
+    ensures { (e : Env) → Holds environment.now e → IfOk result (λ a. array_in (result_subtype of_result e) ≡ a) }
+{
+    let Some(mark) = of_result else {
+        return Ok(None);
+    };
+    match subtype_of(environment, mark.number()) {
+        Some(subtype) => array_head(&subtype),
+        None => Ok(None),
     }
 }
 
@@ -237,14 +265,8 @@ pub fn operate(
     operands: &[Result<Value, StopKind>],
 ) -> Result<Result<Value, StopKind>, AllocError>
     ensures { (e : Env) → Holds environment.now e → (as' : List Argument) → AreArguments as' operands.now
-        → IfOk result (λ r. operate_on (read_operation operation.now) of_result e as' ≡ got r) }
+        → IfOk result (λ r. operate_in_environment (read_operation operation.now) of_result e as' ≡ got r) }
 {
-    match operation {
-        Operation::Lazily(operator) => lazily(alloc, *operator, operands),
-        Operation::Edge(_) => Ok(Err(StopKind::Range)),
-        Operation::Nothing => Ok(Err(StopKind::Range)),
-        Operation::Apply(_) => strictly(alloc, environment, operation, of_result, operands),
-        Operation::Join(_, _) => strictly(alloc, environment, operation, of_result, operands),
-        Operation::TruthText => strictly(alloc, environment, operation, of_result, operands),
-    }
+    let array = result_array(environment, of_result)?;
+    operate_on(alloc, array, operation, operands)
 }

@@ -5,11 +5,11 @@ ghost use Rattle.std.specs.Str.{bytes_eq};
 ghost use Rattle.vd_environments.specs.Environments.{Env};
 ghost use Rattle.vd_environments.specs.Got.{got};
 ghost use Rattle.vd_plain_values.specs.Plain.{Holds, element_literals_in, literals_in, texts_in};
-ghost use Rattle.vd_plain_values.specs.Strings.{ArePlaces, place_found, places_in, string_in, texts_of};
+ghost use Rattle.vd_plain_values.specs.Strings.{ArePlaces, array_by, array_in_places, place_found, places_in, string_in, texts_of};
 ghost use Rattle.vd_meaning.specs.Literals.{character, literals_at, position_from};
 
 use crate::answers::settled;
-use crate::environment::{Entry, SubtypeForm, array_head, subtype_of};
+use crate::environment::{ArrayHead, Entry, SubtypeForm, array_head, subtype_of};
 use std::alloc::{AllocError, Global};
 use vd_composites::Value;
 use vd_declarations::TypeId;
@@ -111,19 +111,31 @@ fn element_literals<'a>(subtype: &Cursor<'a, SubtypeForm>) -> Option<Cursor<'a, 
     }
 }
 
+/// The array of an array subtype whose elements are the literals at some places, and a stop where it isn't one.
+pub fn array_at(
+    alloc: Global,
+    array: Option<ArrayHead>,
+    places: &[u32],
+) -> Result<Result<Value, StopKind>, AllocError>
+    ensures { IfOk result (λ r. r ≡ array_by array places.now) }
+{
+    let Some(array) = array else {
+        return Ok(Err(StopKind::Range));
+    };
+    let values = literals_of(alloc, places)?;
+    settled(positional_array(alloc, array.index, array.element, &values))
+}
+
 /// The array of some characters.
 fn array_of(
     alloc: Global,
     subtype: &Cursor<'_, SubtypeForm>,
     places: &[u32],
 ) -> Result<Result<Value, StopKind>, AllocError>
-    ensures { IfOk result (λ r. r ≡ Rattle.vd_plain_values.specs.Strings.array_in_places subtype.now places.now) }
+    ensures { IfOk result (λ r. r ≡ array_in_places subtype.now places.now) }
 {
-    let Some(array) = array_head(subtype)? else {
-        return Ok(Err(StopKind::Range));
-    };
-    let values = literals_of(alloc, places)?;
-    settled(positional_array(alloc, array.index, array.element, &values))
+    let array = array_head(subtype)?;
+    array_at(alloc, array, places)
 }
 
 /// A literal of a subtype.

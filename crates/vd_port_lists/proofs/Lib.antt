@@ -1,6 +1,5 @@
 pub mod ElementLemmas
 pub mod PartLemmas
-pub mod PieceLemmas
 pub mod SeekLemmas
 pub mod PortLemmas
 pub mod ViewLemmas

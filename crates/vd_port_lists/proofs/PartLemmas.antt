@@ -3,21 +3,21 @@ use Rattle.std.proofs.Common.{◌≡◌, ℕ, zero, suc, Bool, true, false, List
 use Rattle.vd_elaboration.specs.Facets.{ByView, Part, nth}
 use Rattle.vd_elaboration.specs.Parts as elaborated
 use Rattle.vd_elaboration.specs.Parts.{node_part, part_of, parts}
+use Rattle.vd_facets.proofs.PassingLemmas.{declaration_by, declaration_passed, present_by, present_passed}
+use Rattle.vd_facets.specs.Passing.{passing}
+use Rattle.vd_facets.specs.declared.passing.Passing.{Passing}
+use Rattle.vd_facets.specs.declared.passing.Passing.TheVariants.{First, Last, Nothing, OpenFirst, Second}
 use Rattle.vd_forest.specs.Forest.{Forest, more, nothing, skipped}
 use Rattle.vd_forms.specs.declared.form.Form.{Form}
 use Rattle.vd_meaning.specs.Brackets.{or_else}
 use Rattle.vd_meaning.specs.Facets.{Meaning, flattened, no_meaning}
 use Rattle.vd_meaning.specs.Facets as facets
-use Rattle.vd_meaning.specs.Kinds.{kind}
+use Rattle.vd_meaning.specs.Kinds.{Kind, kind}
 use Rattle.vd_meaning.specs.Meanings.{meaning_of, meanings}
 use Rattle.vd_meaning.specs.Tables.{Table}
-use Rattle.vd_port_lists.proofs.PieceLemmas.{declared_by_part, declared_here, present_by_part, present_here}
+use Rattle.vd_port_lists.specs.FirstTrees.{declared_first, present_first}
 use Rattle.vd_port_lists.specs.Modes.{read_mode}
-use Rattle.vd_port_lists.specs.Pieces.{bearing_of, declared_first, present_first}
 use Rattle.vd_port_lists.specs.Seeking.{mode_at, mode_by}
-use Rattle.vd_port_lists.specs.declared.pieces.Bearing.{Bearing}
-use Rattle.vd_port_lists.specs.declared.pieces.Bearing.TheVariants.{Absent, Marked, Own}
-use Rattle.vd_port_lists.specs.declared.pieces.Bearing.TheVariants as bearing
 use Rattle.vd_resolved.specs.declared.node.Resolved.{Resolved}
 use Rattle.vd_forms.specs.declared.form.Form.TheVariants as form
 
@@ -36,20 +36,7 @@ part_skipped t zero f = refl
 part_skipped t (suc k) nothing = part_skipped t k nothing
 part_skipped t (suc k) (more n text place inside next) = part_skipped t k next
 
--- ---- a facet that hangs on the same facet of the parts alone is that of the meaning of the tree itself
-
-module _ {X : Type 0} (g : Meaning → X) (by : Form → Resolved → List X → X)
-    (here : (f : Form) (t : Table) (n : Resolved) (text : List ℕ) (ms : List Meaning) → g (meaning_of (kind f) t n text ms) ≡ by f n (map g ms))
-    (kept : (k : elaborated.Kind) (n : Resolved) (m : Meaning) (ps : List Part) → g (part_of k n m ps).meaning ≡ g m) where
-  pub facets_agree : (t : Table) (f : Forest Resolved) → map g (meant (parts t f)) ≡ map g (meanings t f)
-  facets_agree t nothing = refl
-  facets_agree t (more n text place inside next) =
-      ap₂ (λ x xs. x ∷ xs)
-      (kept (elaborated.kind n.form) n (meaning_of (kind n.form) t n text (meant (parts t inside))) (parts t inside)
-      ∙ here n.form t n text (meant (parts t inside)) ∙ ap (by n.form n) (facets_agree t inside) ∙ sym (here n.form t n text (meanings t inside)))
-      (facets_agree t next)
-
--- ---- declarations
+-- ---- a facet of some meanings, as a list
 
 nth_or : {X : Type 0} → X → ℕ → List X → X
 nth_or x k [] = x
@@ -72,72 +59,77 @@ unfolding last_or
 last_of_facets g m [] = refl
 last_of_facets g m (l ∷ ms) = last_of_facets g l ms
 
-declared_among : Bearing → Resolved → List (Option ℕ) → Option ℕ
-declared_among Absent n ds = None
-declared_among Own n ds = n.declaration
-declared_among (bearing.Part k) n ds = nth_or None k ds
-declared_among Marked n ds = or_else n.declaration (last_or None ds)
+-- ---- one that hangs on the same facet of the parts alone is that of the meaning of the tree itself
 
-abbrev declared_by_list : Form → Resolved → List (Option ℕ) → Option ℕ
-declared_by_list f n ds = declared_among (bearing_of f) n ds
+module _ {X : Type 0} (g : Meaning → X) (by : Passing → Resolved → List X → X)
+    (here : (k : Kind) (t : Table) (n : Resolved) (text : List ℕ) (ms : List Meaning) → g (meaning_of k t n text ms) ≡ by (passing k) n (map g ms))
+    (kept : (k : elaborated.Kind) (n : Resolved) (m : Meaning) (ps : List Part) → g (part_of k n m ps).meaning ≡ g m) where
+  facets_agree : (t : Table) (f : Forest Resolved) → map g (meant (parts t f)) ≡ map g (meanings t f)
+  facets_agree t nothing = refl
+  facets_agree t (more n text place inside next) =
+      ap₂ (λ x xs. x ∷ xs)
+      (kept (elaborated.kind n.form) n (meaning_of (kind n.form) t n text (meant (parts t inside))) (parts t inside)
+      ∙ here (kind n.form) t n text (meant (parts t inside)) ∙ ap (by (passing (kind n.form)) n) (facets_agree t inside)
+      ∙ sym (here (kind n.form) t n text (meanings t inside)))
+      (facets_agree t next)
+
+  facet_of_part : (t : Table) (k : ℕ) (f : Forest Resolved) → g (nth k (parts t f)).meaning ≡ g (facets.nth 0 (meanings t (skipped k f)))
+  facet_of_part t k f =
+      ap (λ p. g p.meaning) (part_skipped t k f)
+      ∙ sym (ap g (nth_meant 0 (parts t (skipped k f))))
+      ∙ nth_of_facets g 0 (meant (parts t (skipped k f)))
+      ∙ ap (nth_or (g no_meaning) 0) (facets_agree t (skipped k f))
+      ∙ sym (nth_of_facets g 0 (meanings t (skipped k f)))
+
+-- ---- declarations
+
+declared_among : Passing → Resolved → List (Option ℕ) → Option ℕ
+declared_among Nothing n ds = None
+declared_among First n ds = nth_or None 0 ds
+declared_among OpenFirst n ds = nth_or None 0 ds
+declared_among Second n ds = nth_or None 1 ds
+declared_among Last n ds = or_else n.declaration (last_or None ds)
+declared_among _ n ds = n.declaration
 
 last_declared : (ms : List Meaning) → (facets.last_of ms).declaration ≡ last_or None (map (λ m. m.declaration) ms)
 unfolding last_or
 last_declared [] = refl
 last_declared (m ∷ ms) = last_of_facets (λ m. m.declaration) m ms
 
-declared_by_bearing : (b : Bearing) (t : Table) (n : Resolved) (ms : List Meaning) → declared_by_part t b n ms ≡ declared_among b n (map (λ m. m.declaration) ms)
-unfolding declared_by_part declared_among
-declared_by_bearing Absent t n ms = refl
-declared_by_bearing Own t n ms = refl
-declared_by_bearing (bearing.Part k) t n ms = nth_of_facets (λ m. m.declaration) k ms
-declared_by_bearing Marked t n ms = ap (or_else n.declaration) (last_declared ms)
-
-declared_from_list : (f : Form) (t : Table) (n : Resolved) (text : List ℕ) (ms : List Meaning) → (meaning_of (kind f) t n text ms).declaration ≡ declared_by_list f n (map (λ m. m.declaration) ms)
-declared_from_list f t n text ms = declared_here f t n text ms ∙ declared_by_bearing (bearing_of f) t n ms
+declared_by_passing : (p : Passing) (n : Resolved) (ms : List Meaning) → declaration_by p n ms ≡ declared_among p n (map (λ m. m.declaration) ms)
+unfolding declared_among
+declared_by_passing First n ms = nth_of_facets (λ m. m.declaration) 0 ms
+declared_by_passing OpenFirst n ms = nth_of_facets (λ m. m.declaration) 0 ms
+declared_by_passing Second n ms = nth_of_facets (λ m. m.declaration) 1 ms
+declared_by_passing Last n ms = ap (or_else n.declaration) (last_declared ms)
+declared_by_passing _ n ms = refl
 
 kept_declared : (k : elaborated.Kind) (n : Resolved) (m : Meaning) (ps : List Part) → (part_of k n m ps).meaning.declaration ≡ m.declaration
 kept_declared elaborated.SelectedText n m ps = refl
 kept_declared elaborated.Alternative n m ps = refl
 kept_declared _ n m ps = refl
 
-head_of : {X : Type 0} → X → List X → X
-head_of x [] = x
-head_of x (y ∷ ys) = y
-
-head_of_facets : {X : Type 0} (g : Meaning → X) (ms : List Meaning) → g (facets.nth 0 ms) ≡ head_of (g no_meaning) (map g ms)
-unfolding head_of
-head_of_facets g [] = refl
-head_of_facets g (m ∷ ms) = refl
-
 pub part_declared : (t : Table) (k : ℕ) (f : Forest Resolved) → (nth k (parts t f)).meaning.declaration ≡ declared_first t (skipped k f)
-unfolding declared_first
-part_declared t k f =
-    ap (λ p. p.meaning.declaration) (part_skipped t k f)
-    ∙ sym (ap (λ m. m.declaration) (nth_meant 0 (parts t (skipped k f))))
-    ∙ head_of_facets (λ m. m.declaration) (meant (parts t (skipped k f)))
-    ∙ ap (head_of None) (facets_agree (λ m. m.declaration) declared_by_list declared_from_list kept_declared t (skipped k f))
-    ∙ sym (head_of_facets (λ m. m.declaration) (meanings t (skipped k f)))
+part_declared =
+    facet_of_part (λ m. m.declaration) declared_among
+    (λ k t n text ms. declaration_passed k t n text ms ∙ declared_by_passing (passing k) n ms)
+    kept_declared
 
 -- ---- whether it is there
 
-present_among : Bearing → List Bool → Bool
-present_among Absent bs = false
-present_among (bearing.Part k) bs = nth_or false k bs
-present_among _ bs = true
+present_among : Passing → Resolved → List Bool → Bool
+present_among Nothing n bs = false
+present_among First n bs = nth_or false 0 bs
+present_among OpenFirst n bs = nth_or false 0 bs
+present_among Second n bs = nth_or false 1 bs
+present_among _ n bs = true
 
-abbrev present_by_list : Form → Resolved → List Bool → Bool
-present_by_list f n bs = present_among (bearing_of f) bs
-
-present_by_bearing : (b : Bearing) (ms : List Meaning) → present_by_part b ms ≡ present_among b (map (λ m. m.is_present) ms)
-unfolding present_by_part present_among
-present_by_bearing Absent ms = refl
-present_by_bearing Own ms = refl
-present_by_bearing (bearing.Part k) ms = nth_of_facets (λ m. m.is_present) k ms
-present_by_bearing Marked ms = refl
-
-present_from_list : (f : Form) (t : Table) (n : Resolved) (text : List ℕ) (ms : List Meaning) → (meaning_of (kind f) t n text ms).is_present ≡ present_by_list f n (map (λ m. m.is_present) ms)
-present_from_list f t n text ms = present_here f t n text ms ∙ present_by_bearing (bearing_of f) ms
+present_by_passing : (p : Passing) (n : Resolved) (ms : List Meaning) → present_by p ms ≡ present_among p n (map (λ m. m.is_present) ms)
+unfolding present_among
+present_by_passing First n ms = nth_of_facets (λ m. m.is_present) 0 ms
+present_by_passing OpenFirst n ms = nth_of_facets (λ m. m.is_present) 0 ms
+present_by_passing Second n ms = nth_of_facets (λ m. m.is_present) 1 ms
+present_by_passing _ n ms = refl
 
 kept_present : (k : elaborated.Kind) (n : Resolved) (m : Meaning) (ps : List Part) → (part_of k n m ps).meaning.is_present ≡ m.is_present
 kept_present elaborated.SelectedText n m ps = refl
@@ -145,13 +137,10 @@ kept_present elaborated.Alternative n m ps = refl
 kept_present _ n m ps = refl
 
 pub part_present : (t : Table) (k : ℕ) (f : Forest Resolved) → (nth k (parts t f)).meaning.is_present ≡ present_first t (skipped k f)
-unfolding present_first
-part_present t k f =
-    ap (λ p. p.meaning.is_present) (part_skipped t k f)
-    ∙ sym (ap (λ m. m.is_present) (nth_meant 0 (parts t (skipped k f))))
-    ∙ head_of_facets (λ m. m.is_present) (meant (parts t (skipped k f)))
-    ∙ ap (head_of false) (facets_agree (λ m. m.is_present) present_by_list present_from_list kept_present t (skipped k f))
-    ∙ sym (head_of_facets (λ m. m.is_present) (meanings t (skipped k f)))
+part_present =
+    facet_of_part (λ m. m.is_present) present_among
+    (λ k t n text ms. present_passed k t n text ms ∙ present_by_passing (passing k) n ms)
+    kept_present
 
 -- ---- modes
 

@@ -16,6 +16,7 @@ use Rattle.vd_meaning.specs.Names.{number_or}
 use Rattle.vd_meaning.specs.Tables.{Table, table}
 use Rattle.vd_port_lists.proofs.PartLemmas.{meant, nth_meant, part_declared, part_mode}
 use Rattle.vd_port_lists.proofs.SeekLemmas.{found_seen, read_single, read_some, seen_by}
+use Rattle.vd_port_lists.specs.FirstTrees.{declared_first}
 use Rattle.vd_port_lists.specs.Listed.{own_views, read_element, read_view}
 use Rattle.vd_port_lists.specs.Modes.{read_mode}
 use Rattle.vd_port_lists.specs.Seeking.{all_trees, element_at, elements_in, inside_element, inside_for_elements, inside_for_views, inside_names, inside_view, named_element, view_at, view_by, view_seeker}
@@ -123,8 +124,8 @@ module _ (t : Table) where
       ≡ read_some read_found (view_by f t n inside) ++ seen_by t read_found (view_at t) inside_for_views view_value (inside_view f) inside
   view_form_step form.ViewDeclaration n m inside =
       ap (λ d. view_from n d (nth 1 (parts t inside)).meaning.declaration (nth 2 (parts t inside)).elements) (part_declared t 0 inside)
-      ∙ ap (λ d. view_from n (Rattle.vd_port_lists.specs.Pieces.declared_first t inside) d (nth 2 (parts t inside)).elements) (part_declared t 1 inside)
-      ∙ ap (view_from n (Rattle.vd_port_lists.specs.Pieces.declared_first t inside) (Rattle.vd_port_lists.specs.Pieces.declared_first t (skipped 1 inside))) (sym (elements_found inside))
+      ∙ ap (λ d. view_from n (declared_first t inside) d (nth 2 (parts t inside)).elements) (part_declared t 1 inside)
+      ∙ ap (view_from n (declared_first t inside) (declared_first t (skipped 1 inside))) (sym (elements_found inside))
   view_form_step _ n m inside = refl
 
   view_step : (x : Sought) (n : Resolved) (text : List ℕ) (place : Place) (inside : Forest Resolved)

@@ -1,5 +1,5 @@
+pub mod FirstTrees
 pub mod Listed
 pub mod Modes
 pub mod Named
-pub mod Pieces
 pub mod Seeking

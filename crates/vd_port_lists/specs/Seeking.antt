@@ -4,10 +4,11 @@ use Rattle.vd_finding.specs.Finding.{Finder}
 use Rattle.vd_forest.specs.Forest.{Forest, more, nothing, skipped}
 use Rattle.vd_forms.specs.declared.form.Form.{Form}
 use Rattle.vd_gathering.specs.Gathering.{all_found}
-use Rattle.vd_meaning.specs.Brackets.{or_else}
+use Rattle.vd_meaning.specs.Facets.{nth}
+use Rattle.vd_meaning.specs.Meanings.{made, meanings}
 use Rattle.vd_meaning.specs.Names.{number_or}
 use Rattle.vd_meaning.specs.Tables.{Table}
-use Rattle.vd_port_lists.specs.Pieces.{declared_first, present_first}
+use Rattle.vd_port_lists.specs.FirstTrees.{declared_first, present_first}
 use Rattle.vd_port_lists.specs.declared.entries.ListedElement.{ListedElement}
 use Rattle.vd_port_lists.specs.declared.entries.ListedInstance.{ListedInstance}
 use Rattle.vd_port_lists.specs.declared.entries.ListedPort.{ListedPort}
@@ -158,7 +159,7 @@ inside_for_views _ f parts = nothing_sought
 abbrev pub view_of : Table → Resolved → Forest Resolved → ListedView
 view_of t n parts =
     record {
-      view = number_or (or_else n.declaration (declared_first t parts));
+      view = number_or (made n (nth 0 (meanings t parts)));
       mark = declared_first t (skipped 1 parts);
       elements = elements_in t parts;
     }
@@ -192,7 +193,7 @@ abbrev pub instance_of : Table → Resolved → Forest Resolved → ListedInstan
 instance_of t n parts =
     record {
       generic = number_or (declared_first t (skipped 1 parts));
-      instance = number_or (or_else n.declaration (declared_first t parts));
+      instance = number_or (made n (nth 0 (meanings t parts)));
     }
 
 abbrev pub instance_by : Form → Table → Resolved → Forest Resolved → Option ListedInstance

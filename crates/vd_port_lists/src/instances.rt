@@ -9,11 +9,10 @@ ghost use Rattle.vd_port_lists.specs.Listed.{views_of_listed};
 ghost use Rattle.vd_port_lists.specs.Seeking.{inside_for_instances as instances_looked_for, inside_package as package_inside, instance_at as instance_answered, instance_by as instance_of_form, instance_seeker};
 
 use crate::entries::ListedInstance;
-use crate::pieces::declaration_of;
 use crate::seeking::{Seeking, Sought, all_trees, for_next, is_here, nothing_sought};
-use crate::views::{declared_number, number_of};
 use std::alloc::{AllocError, Global};
-use vd_declarations::Declaration;
+use vd_declarations::{DeclId, Declaration};
+use vd_facets::{declaration_of, number_made};
 use vd_finding::Finding;
 use vd_forest::{Cursor, Opened};
 use vd_forms::Form;
@@ -27,8 +26,8 @@ fn instance_by(node: &Resolved, parts: &Cursor<'_, Resolved>) -> Option<ListedIn
 {
     match node.form {
         Form::PackageInstantiation => Some(ListedInstance {
-            generic: number_of(declaration_of(&parts.skip(1))),
-            instance: declared_number(node, parts),
+            generic: declaration_of(&parts.skip(1)).unwrap_or(DeclId::of(0)),
+            instance: number_made(node, parts),
         }),
         _ => None,
     }

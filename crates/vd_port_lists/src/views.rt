@@ -1,18 +1,14 @@
 //! The views of a design.
 
-ghost use Rattle.std.specs.Prelude.{◌≡◌, ◌++◌, ◌∷◌, IfOk, [], map};
+ghost use Rattle.std.specs.Prelude.{◌≡◌, IfOk, map};
 ghost use Rattle.vd_forest.specs.Forest.{Forest};
 ghost use Rattle.vd_meaning.specs.Tables.{Table, table};
 ghost use Rattle.vd_port_lists.specs.Listed.{own_views, read_view};
-ghost use Rattle.vd_port_lists.specs.Pieces.{declared_first};
-ghost use Rattle.vd_meaning.specs.Brackets.{or_else};
-ghost use Rattle.vd_meaning.specs.Names.{number_or};
 ghost use Rattle.vd_port_lists.specs.Seeking.{element_at as element_answered, element_seeker, elements_in as elements_inside, inside_for_elements as elements_looked_for, inside_for_views as views_looked_for, inside_view as view_inside, named_element as element_named, view_at as view_answered, view_by as view_of_form, view_of as view_declared, view_seeker};
 
 use crate::elements::Elements;
 use crate::entries::ListedElement;
 use crate::modes::PortMode;
-use crate::pieces::declaration_of;
 use crate::seeking::{
     Seeking, Sought, all_trees, for_next, inside_element, inside_names, is_here, nothing_sought,
     one_tree,
@@ -20,6 +16,7 @@ use crate::seeking::{
 use std::alloc::{AllocError, Global};
 use vd_bytes::Text;
 use vd_declarations::{DeclId, Declaration};
+use vd_facets::{declaration_of, number_made, quoted};
 use vd_finding::Finding;
 use vd_forest::{Cursor, Opened};
 use vd_forms::Form;
@@ -33,18 +30,6 @@ pub struct ListedView {
     pub view: DeclId,
     pub mark: Option<DeclId>,
     pub elements: Elements,
-}
-
-/// A character literal with its apostrophes.
-fn quoted(alloc: Global, character: &[u8]) -> Result<Text, AllocError>
-    ensures { IfOk result (λ text. text ≡ 39 ∷ (character.now ++ 39 ∷ [])) }
-{
-    let mut bytes = Vec::new(alloc);
-    bytes.push(b'\'')?;
-    bytes.extend_from_slice(character)?;
-    bytes.push(b'\'')?;
-    let text = Text::from_slice(alloc, &bytes)?;
-    Ok(text)
 }
 
 fn named_element(
@@ -146,20 +131,6 @@ fn elements_in(
     Ok(elements)
 }
 
-/// The number of what a node declares, which it carries itself or the first of its parts; 0 where there is none.
-pub(crate) fn declared_number(node: &Resolved, parts: &Cursor<'_, Resolved>) -> DeclId
-    ensures { (t : Table) → result ≡ number_or (or_else node.now.declaration (declared_first t parts.now)) }
-{
-    number_of(node.declaration.or(declaration_of(parts)))
-}
-
-/// Where there is none, 0.
-pub(crate) fn number_of(declaration: Option<DeclId>) -> DeclId
-    ensures { result ≡ number_or declaration }
-{
-    declaration.unwrap_or(DeclId::of(0))
-}
-
 fn view_of(
     alloc: Global,
     seeker: &ElementSeeker<'_>,
@@ -169,7 +140,7 @@ fn view_of(
 {
     let elements = elements_in(alloc, seeker, &node.parts)?;
     Ok(ListedView {
-        view: declared_number(&node.form, &node.parts),
+        view: number_made(&node.form, &node.parts),
         mark: declaration_of(&node.parts.skip(1)),
         elements,
     })

@@ -2,13 +2,10 @@
 use Rattle.std.specs.Prelude.{◌++◌, ◌∷◌, List, None, Option, Some, [], true, ℕ}
 use Rattle.std.specs.Borrow.{Bor}
 use Rattle.vd_elaboration.specs.Building.{Mode}
-use Rattle.vd_meaning.specs.Tables.{ConstantRole, ElementRole, FunctionRole, LiteralRole, MarkRole, NoRole, Role, SignalRole, VariableRole}
 use Rattle.vd_port_lists.specs.Modes.{read_mode, read_plain}
 use Rattle.vd_port_lists.specs.declared.modes.Mode.{Mode as WrittenMode}
 use Rattle.vd_port_modes.specs.declared.found.Oriented.{Oriented as WrittenOriented}
 use Rattle.vd_port_modes.specs.declared.reaching.Reached.{Reached as WrittenReached}
-use Rattle.vd_port_modes.specs.declared.roles.Role.{Role as WrittenRole}
-use Rattle.vd_port_modes.specs.declared.roles.Role.TheVariants.{Constant, Element, Function, Literal, Mark, Nothing, Signal, Variable}
 use Rattle.vd_value_rules.specs.Designs.{Oriented}
 use Rattle.vd_value_rules.specs.Reaching.{Reached}
 
@@ -22,16 +19,6 @@ read_oriented_some (Some o) = Some (read_oriented o)
 abbrev pub read_plain_some : Option WrittenMode → Option Mode
 read_plain_some None = None
 read_plain_some (Some mode) = Some (read_plain mode)
-
-abbrev pub read_role : WrittenRole → Role
-read_role Constant = ConstantRole
-read_role Variable = VariableRole
-read_role Signal = SignalRole
-read_role Literal = LiteralRole
-read_role Function = FunctionRole
-read_role Mark = MarkRole
-read_role Element = ElementRole
-read_role Nothing = NoRole
 
 -- ---- what a name names
 

@@ -4,6 +4,8 @@ ghost use Rattle.std.specs.Prelude.{◌≡◌, IfOk, Some, [], map, nat_eq, slic
 ghost use Rattle.std.specs.HashMap.{get};
 ghost use Rattle.vd_elaboration.specs.Elaborations.{mode_as, number_as};
 ghost use Rattle.vd_elaboration.specs.Instances.{element_mode, view_in};
+ghost use Rattle.vd_facets.specs.Roles.{read_role};
+ghost use Rattle.vd_meaning.specs.Tables.{role_of as role_in};
 ghost use Rattle.vd_port_lists.specs.Listed.{read_view};
 ghost use Rattle.vd_port_lists.specs.Modes.{read_mode};
 ghost use Rattle.vd_port_modes.specs.Readings.{read_oriented};
@@ -19,6 +21,7 @@ use std::alloc::{AllocError, Global};
 use std::collections::HashMap;
 use std::marker::Model;
 use vd_declarations::{DeclId, Declaration};
+use vd_facets::{Role, role_of};
 use vd_port_lists::{
     ListedInstance, ListedView, Mode, PortMode, listed_instances, listed_ports, listed_views,
 };
@@ -185,6 +188,13 @@ impl<'t> Interfaces<'t> {
         ensures { result.now ≡ self.now.tree.declarations }
     {
         self.tree.declarations()
+    }
+
+    /// What a declaration is to a name.
+    pub fn role_of(&self, number: Option<DeclId>) -> Role
+        ensures { read_role result ≡ role_in (design_in self.now).table number }
+    {
+        role_of(self.declarations(), number)
     }
 
     /// The mode or view of a port; `in` of a number that is no port's.

@@ -7,7 +7,6 @@ pub mod interfaces;
 mod numbers;
 pub mod places;
 pub mod reaching;
-pub mod roles;
 
 pub use copies::Copies;
 pub use found::{Found, Oriented};

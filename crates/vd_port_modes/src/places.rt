@@ -2,8 +2,9 @@
 
 ghost use Rattle.std.specs.Prelude.{◌≡◌, None, Option, Some, drop, map};
 ghost use Rattle.vd_elaboration.specs.Building.{is_output as is_out};
+ghost use Rattle.vd_facets.specs.Roles.{read_role};
 ghost use Rattle.vd_meaning.specs.Tables.{role_of as role_named};
-ghost use Rattle.vd_port_modes.specs.Readings.{read_fields, read_oriented, read_oriented_some, read_plain_some, read_reached, read_role, read_text};
+ghost use Rattle.vd_port_modes.specs.Readings.{read_fields, read_oriented, read_oriented_some, read_plain_some, read_reached, read_text};
 ghost use Rattle.vd_port_modes.specs.Source.{design_in};
 ghost use Rattle.vd_value_rules.specs.Designs.{at_fields as is_at_fields};
 ghost use Rattle.vd_value_rules.specs.Names.{is_read_by as is_read_behind, may_be_assigned as is_assignable, may_be_driven as is_drivable, names_view_port as is_view_port, reads_out as is_out_read};
@@ -12,8 +13,8 @@ ghost use Rattle.vd_value_rules.specs.Reaching.{has_view as has_any_view, is_inp
 use crate::found::{Oriented, is_view, mode_in, straight};
 use crate::interfaces::Interfaces;
 use crate::reaching::{Reached, is_over};
-use crate::roles::{Role, role_of};
 use vd_declarations::{Class, DeclId};
+use vd_facets::Role;
 use vd_operations::tables::class_of;
 use vd_port_lists::Mode;
 
@@ -103,14 +104,14 @@ fn is_variable_role(role: Role) -> bool
 pub fn is_signal_name(interfaces: &Interfaces<'_>, reached: &Reached<'_>) -> bool
     ensures { result ≡ is_name_of_signal (design_in interfaces.now) (read_reached reached.now) }
 {
-    is_signal_role(role_of(interfaces, reached.declaration)) && !is_over(reached)
+    is_signal_role(interfaces.role_of(reached.declaration)) && !is_over(reached)
 }
 
 /// Whether it is a variable or a part of one, as such.
 pub fn is_variable_name(interfaces: &Interfaces<'_>, reached: &Reached<'_>) -> bool
     ensures { result ≡ is_name_of_variable (design_in interfaces.now) (read_reached reached.now) }
 {
-    is_variable_role(role_of(interfaces, reached.declaration)) && !is_over(reached)
+    is_variable_role(interfaces.role_of(reached.declaration)) && !is_over(reached)
 }
 
 fn is_output(mode: Option<Mode>) -> bool

@@ -1,15 +1,16 @@
 //! What names name: an object and the fields that are selected in it, before an attribute or a call makes something else of it.
 
 ghost use Rattle.std.specs.Prelude.{◌≡◌, IfOk, codes, if◌then◌else◌};
+ghost use Rattle.vd_facets.specs.Roles.{read_role};
 ghost use Rattle.vd_meaning.specs.Tables.{role_of as role_named};
-ghost use Rattle.vd_port_modes.specs.Readings.{attribute_behind, field_behind, read_reached, read_role, value_of_reached};
+ghost use Rattle.vd_port_modes.specs.Readings.{attribute_behind, field_behind, read_reached, value_of_reached};
 ghost use Rattle.vd_port_modes.specs.Source.{design_in};
 ghost use Rattle.vd_value_rules.specs.Reaching.{bracketed_in, first_reached as first_is_reached, is_over as is_reached_over, name_of_element, nothing_reached as reached_nothing, reached as is_reached, selected_in, with_piece as reached_with_piece};
 
 use crate::interfaces::Interfaces;
-use crate::roles::{Role, role_of};
 use std::alloc::{AllocError, Global};
 use vd_declarations::DeclId;
+use vd_facets::Role;
 use vd_forest::{Cursor, Opened};
 use vd_forms::Form;
 use vd_operations::tables::name_of;
@@ -83,7 +84,7 @@ fn selected<'a>(
     ensures { IfOk result (λ r. read_reached r
         ≡ selected_in (role_named (design_in interfaces.now).table node.now.declaration) (design_in interfaces.now) node.now (read_reached reached.entry)) }
 {
-    match role_of(interfaces, node.declaration) {
+    match interfaces.role_of(node.declaration) {
         Role::Element => with_field(reached, name_declared(interfaces, node.declaration)),
         _ => Ok(first_reached(alloc, node)),
     }
@@ -109,7 +110,7 @@ fn bracketed<'a>(
 ) -> Reached<'a>
     ensures { read_reached result ≡ bracketed_in (role_named (design_in interfaces.now).table number) (read_reached reached.entry) }
 {
-    match role_of(interfaces, number) {
+    match interfaces.role_of(number) {
         Role::Function | Role::Mark => as_value(reached),
         _ => reached,
     }

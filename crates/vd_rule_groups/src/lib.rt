@@ -3,5 +3,7 @@
 
 pub mod firsts;
 pub mod laws;
+pub mod refusing;
 
 pub use firsts::{Firsts, nothing_refused, together};
+pub use refusing::refused_if;

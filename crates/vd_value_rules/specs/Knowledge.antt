@@ -20,7 +20,7 @@ use Rattle.vd_meaning.specs.Declarations.{constant_known, constrained_array, enu
 use Rattle.vd_meaning.specs.Facets.{Meaning, flattened, nth}
 use Rattle.vd_meaning.specs.Given.{given_env}
 use Rattle.vd_meaning.specs.Meanings.{meanings}
-use Rattle.vd_meaning.specs.Names.{scalar_type, scalars_of}
+use Rattle.vd_meaning.specs.Names.{Named, scalar_type, scalars_of}
 use Rattle.vd_resolved.specs.declared.node.Resolved.{Resolved}
 use Rattle.vd_value_rules.specs.Designs.{Design}
 use Rattle.vd_values.specs.declared.scalar.Scalar.{Scalar}
@@ -127,10 +127,14 @@ array_or_later (Err halt) known element =
       make = OfElements [] (later known) element.make;
     }
 
+-- the subtype of a name, where it hangs on what is locally static alone
+abbrev pub early_subtype : Named → Env → Got Subtype
+early_subtype p e = if p.local_slices e then p.subtype e else senseless
+
 -- an array type of any bounds, and one with a range
 abbrev pub any_bounds : Meaning → Env → Indicated → Got Indicated
 any_bounds index e element =
-    index.name.subtype e >>= scalars_of >>= λ s. Ok (unconstrained_array s (index.name.make e) element)
+    early_subtype index.name e >>= scalars_of >>= λ s. Ok (unconstrained_array s (index.name.make e) element)
 
 abbrev pub own_range : Meaning → Env → Indicated → Got Indicated
 own_range index e element =

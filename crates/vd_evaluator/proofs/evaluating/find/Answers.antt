@@ -1,7 +1,7 @@
 use Rattle.std.proofs.Common.{sym, subst}
 use Rattle.vd_meaning.specs.Tables.{table}
 use Rattle.vd_evaluator.specs.Senses.{AreTrees}
-use Rattle.vd_evaluator.proofs.StackLemmas.{tree_answer}
+use Rattle.vd_evaluator.proofs.TreeLemmas.{tree_answer}
 use Rattle.vd_evaluator.proofs.evaluating.find.Goals as goal
 
 pub returns : goal.returns

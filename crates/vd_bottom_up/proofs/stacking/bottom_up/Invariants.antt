@@ -1,0 +1,20 @@
+use Rattle.std.proofs.Common.{◌≡◌, ◌≤◌, length, drop, reverse}
+use Rattle.vd_forest.specs.Forest.{Forest}
+use Rattle.vd_bottom_up.specs.Trees.{AreForests, AreSound}
+use Rattle.vd_bottom_up.specs.Visits.{visited}
+use Rattle.vd_bottom_up.proofs.StackLemmas.{stacked}
+use Rattle.vd_bottom_up.proofs.stacking.bottom_up.Given as goal
+
+abbrev pub invariant-loop-left : goal.invariant-loop-left
+invariant-loop-left g l = record {
+  within : l.left ≤ length l.forests.items;
+  forests : l.forests.items ≡ visited l.from;
+  are : AreForests (g.T.BottomUp.comes_to l.fn.by) (stacked (drop l.left l.forests.items)) (reverse l.stack.items);
+  kept : (f : Forest g.row.F.Denot) (s : g.row.S.Denot) → g.T.BottomUp.comes_to l.fn.by f s → g.T.BottomUp.comes_to l.by f s;
+  as_before : (f : Forest g.row.F.Denot) (s : g.row.S.Denot) → g.T.BottomUp.comes_to l.by f s → g.T.BottomUp.comes_to l.fn.by f s;
+  ready : g.T.BottomUp.is_ready l.by;
+  sound : AreSound (g.T.BottomUp.is_sound l.by) l.stack.items;
+}
+
+abbrev pub decreases-loop-left : goal.decreases-loop-left
+decreases-loop-left g l = l.left

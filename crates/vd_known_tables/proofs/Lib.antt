@@ -1,0 +1,4 @@
+pub mod LogLemmas
+pub mod KnownLemmas
+pub mod DeclaredLemmas
+pub mod ShapeLemmas

@@ -1,0 +1,5 @@
+pub mod Slots
+pub mod Contents
+pub mod Known
+pub mod Denoted
+pub mod Shapes

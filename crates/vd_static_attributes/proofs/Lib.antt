@@ -1,0 +1,3 @@
+pub mod BoundLemmas
+pub mod ConversionLemmas
+pub mod TypeLemmas

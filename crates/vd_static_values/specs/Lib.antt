@@ -1,0 +1,4 @@
+pub mod Finding
+pub mod Operands
+pub mod Characters
+pub mod Levels
