@@ -53,7 +53,7 @@ pub fn no_name() -> KnownName
 }
 
 /// What stops is not locally static.
-fn unless_stopped(known: StaticSort, is_found: bool) -> StaticSort
+pub fn unless_stopped(known: StaticSort, is_found: bool) -> StaticSort
     ensures { result ≡ record { is_local = known.is_local && is_found; is_global = known.is_global } }
 {
     StaticSort {
