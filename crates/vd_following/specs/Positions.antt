@@ -51,3 +51,19 @@ state_at judge s (Down x ∷ p) = judge.down (state_at judge s p) x.form x.text 
 -- what a judge finds broken at a place
 abbrev pub judged : {F S : Type 0} → Judge F S → S → Position F → Tree F → List Refused
 judged judge s p x = judge.broken (state_at judge s p) x.form x.text x.place x.parts
+
+-- ---- where a walk is
+
+-- at some place, with some refusals found
+pub record IsAtPlace {F : Type 0} (follows : List Refused → List (Position F) → Type 0) : Type 0 where
+  pub found : List Refused
+  pub here : Position F
+  pub round : List (Position F)
+  pub knows : follows found (here ∷ round)
+
+-- at the end of the parts of a tree
+pub record IsAtEnd {F : Type 0} (follows : List Refused → List (Position F) → Type 0) (x : Tree F) : Type 0 where
+  pub found : List Refused
+  pub here : Position F
+  pub round : List (Position F)
+  pub knows : follows found (passed (Down x ∷ here) x.parts ∷ here ∷ round)

@@ -2,7 +2,7 @@
 
 ghost use Rattle.std.specs.Prelude.{◌≡◌, ◌++◌, ◌∷◌, List, OnOk};
 ghost use Rattle.vd_bytes.specs.declared.answers.Refused.{Refused};
-ghost use Rattle.vd_following.specs.Positions.{Along, Down, Position, Tree, all_broken_at, passed, tree_of};
+ghost use Rattle.vd_following.specs.Positions.{Along, Down, IsAtEnd, IsAtPlace, Position, Tree, all_broken_at, passed, tree_of};
 
 use std::alloc::{AllocError, Global};
 use vd_forest::{Cursor, Opened};
@@ -18,12 +18,14 @@ pub trait Following<'a, F: Copy + Drop> {
 
     /// Finds what a tree breaks, and goes into its parts.
     fn enter(&mut self, alloc: Global, node: &Opened<'a, F>) -> Result<(), AllocError>
+        requires place { IsAtPlace (follows self.old) }
         ensures follows { (rs : List Refused) (p : Position F) (ps : List (Position F)) → follows self.old rs (p ∷ ps)
             → OnOk result (follows self.new (rs ++ broken self.old p (tree_of node.now)) ((Down (tree_of node.now) ∷ p) ∷ p ∷ ps)) }
         ensures same { broken self.new ≡ broken self.old };
 
     /// Goes from the end of a tree's parts behind the tree.
     fn leave(&mut self, alloc: Global, node: &Opened<'a, F>) -> Result<(), AllocError>
+        requires end { IsAtEnd (follows self.old) (tree_of node.now) }
         ensures follows { (rs : List Refused) (p : Position F) (ps : List (Position F))
             → follows self.old rs (passed (Down (tree_of node.now) ∷ p) node.now.parts ∷ p ∷ ps)
             → OnOk result (follows self.new rs ((Along (tree_of node.now) ∷ p) ∷ ps)) }
@@ -36,6 +38,7 @@ pub fn follow<'a, F: Copy + Drop, T: Following<'a, F>>(
     from: &Cursor<'a, F>,
     by: &mut T,
 ) -> Result<(), AllocError>
+    requires place { IsAtPlace (T.follows by.old) }
     ensures follows { (rs : List Refused) (p : Position F) (ps : List (Position F)) → T.follows by.old rs (p ∷ ps)
         → OnOk result (T.follows by.new (rs ++ all_broken_at (T.broken by.old) p from.now) (passed p from.now ∷ ps)) }
     ensures same { T.broken by.new ≡ T.broken by.old }

@@ -1,0 +1,4 @@
+mod KindLemmas
+mod TreeLemmas
+mod nodes
+mod reading
