@@ -1,0 +1,3 @@
+pub mod BracketLemmas
+pub mod KnownLemmas
+pub mod PartLemmas
