@@ -1,6 +1,6 @@
 -- What is known of all parts of a node: how static they are, and their values.
 use Rattle.std.proofs.Common.{◌≡◌, ◌++◌, ◌+◌, ◌<◌, ◌≤◌, ◌∙◌, List, Option, [], add-one, ap, arith, drop, drop-cons, get_or, length, map, refl, sym, take, take_all, true, ◌∷◌, ℕ}
-use Rattle.std.proofs.Math.Bool.{and-true, and_assoc}
+use Rattle.std.proofs.Math.Bool.{and_assoc}
 use Rattle.std.proofs.lemmas.List.{take_more}
 use Rattle.vd_composites.specs.Composites.{Value}
 use Rattle.vd_environments.specs.Environments.{Env, Static, all_static, always, both, unknown}
@@ -22,8 +22,6 @@ both_assoc a b c = λ i. record {
   is_global = and_assoc a.is_global b.is_global c.is_global i;
 }
 
-pub both_always : (a : Static) → both a always ≡ a
-both_always a = λ i. record { is_local = and-true a.is_local i; is_global = and-true a.is_global i }
 
 abbrev pub known_parts : List Node → Static
 known_parts xs = all_static (map (λ x. static_of x.sense.known) xs)
