@@ -1,5 +1,5 @@
 -- Lists in brackets.
-use Rattle.std.proofs.Common.{◌≡◌, ◌≢◌, ◌∙◌, List, Option, [], ap, false, if◌then◌else◌, length, refl, subst, sym, true, ◌∷◌, ℕ}
+use Rattle.std.proofs.Common.{◌≡◌, ◌≢◌, ◌<◌, ◌≤◌, ◌∙◌, List, Option, [], ap, arith, false, get_or, if◌then◌else◌, length, refl, subst, sym, true, ◌∷◌, ℕ}
 use Rattle.vd_composites.specs.Subtypes.{Subtype}
 use Rattle.vd_environments.specs.Environments.{Env, Static, only_global}
 use Rattle.vd_environments.specs.Got.{Got}
@@ -16,6 +16,11 @@ use Rattle.vd_static_entries.specs.declared.senses.Association.{Association}
 use Rattle.vd_static_entries.specs.declared.senses.Association.TheVariants.{ByChoices, ForOthers, Positional}
 
 -- ---- one part
+
+pub one_part : (xs : List Node) (x : Node) → 1 ≤ length xs → length xs < 2 → x ≡ get_or xs 0 x → xs ≡ x ∷ []
+one_part [] x some few is = absurd (omega arith)
+one_part (y ∷ []) x some few is = ap (λ z. z ∷ []) (sym is)
+one_part (y ∷ z ∷ xs) x some few is = absurd (omega arith)
 
 alone_of : (subtypes : List (Forest IndicatedForm)) (e : Env) (P : List Meaning → Type 0) (x : Node) (ms : List Meaning)
     → AreNodes subtypes e (x ∷ []) ms → ((m : Meaning) → IsNode subtypes e x m → P (m ∷ [])) → P ms

@@ -1,8 +1,9 @@
 -- What is known of nodes by what they are.
-use Rattle.std.proofs.Common.{◌≡◌, List, Option, [], ℕ}
+use Rattle.std.proofs.Common.{◌≡◌, ◌∙◌, Global, List, Option, Vec, [], subst, sym, ℕ}
 use Rattle.vd_composites.specs.Composites.{Value}
 use Rattle.vd_composites.specs.Subtypes.{Subtype}
-use Rattle.vd_environments.specs.Environments.{Env, Static}
+use Rattle.vd_declarations.specs.declared.ids.DeclId.{DeclId}
+use Rattle.vd_environments.specs.Environments.{Env}
 use Rattle.vd_environments.specs.Got.{Got}
 use Rattle.vd_forest.specs.Forest.{Forest}
 use Rattle.vd_indicated.specs.Indicated.{static_of}
@@ -91,3 +92,22 @@ module _ (subtypes : List (Forest IndicatedForm)) (e : Env) (s : Sense) where
       choices = is.choices;
       is_open = is.is_open;
     }
+
+-- the same sense once more
+pub same_sense : (subtypes : List (Forest IndicatedForm)) (e : Env) (s : Sense) (m : Meaning) (v : Option (Value Scalar)) (x : KnownName) (cs : Vec (Option DeclId) Global)
+    → v ≡ s.value → x ≡ s.name → cs.items ≡ s.choices.items → IsSense subtypes e s m
+    → IsSense subtypes e (record s { value = v; name = x; choices = cs }) m
+same_sense subtypes e s m v x cs same_value same_name same_choices is = record {
+  text = is.text;
+  declaration = is.declaration;
+  mark = is.mark;
+  position = is.position;
+  is_present = is.is_present;
+  known = is.known;
+  value = λ local given. subst (λ w. IsFound w (m.value given e)) (sym same_value) (is.value local given);
+  range = is.range;
+  name = subst (λ y. IsName subtypes e y m.name) (sym same_name) is.name;
+  association = is.association;
+  choices = is.choices ∙ sym same_choices;
+  is_open = is.is_open;
+}

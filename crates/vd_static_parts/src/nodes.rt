@@ -92,8 +92,8 @@ pub fn expression<'a>(
 
 /// The same node, with a name.
 pub fn with_name<'a>(node: Node<'a>, name: KnownName) -> Node<'a>
-    ensures sound { (subtypes : List (Forest IndicatedForm)) → IsSound subtypes node → IsWithin subtypes name → IsSound subtypes result }
-    ensures node { (subtypes : List (Forest IndicatedForm)) (e : Env) (m : Meaning) (p : Named) → IsNode subtypes e node m → IsName subtypes e name p
+    ensures sound { (subtypes : List (Forest IndicatedForm)) → IsSound subtypes node.entry → IsWithin subtypes name → IsSound subtypes result }
+    ensures node { (subtypes : List (Forest IndicatedForm)) (e : Env) (m : Meaning) (p : Named) → IsNode subtypes e node.entry m → IsName subtypes e name p
         → IsNode subtypes e result (record m { name = p }) }
 {
     let Node { sense, piece } = node;
@@ -125,8 +125,8 @@ pub fn named<'a>(
 
 /// A further piece of a name.
 pub fn piece<'a>(alloc: Global, node: Resolved, text: &'a [u8], piece: Piece<'a>) -> Node<'a>
-    ensures sound { (subtypes : List (Forest IndicatedForm)) → IsSoundPiece subtypes piece → IsSound subtypes result }
-    ensures node { (subtypes : List (Forest IndicatedForm)) (e : Env) (ms : List Meaning) (f : Named → Named) → IsPiece subtypes e piece f
+    ensures sound { (subtypes : List (Forest IndicatedForm)) → IsSoundPiece subtypes piece.entry → IsSound subtypes result }
+    ensures node { (subtypes : List (Forest IndicatedForm)) (e : Env) (ms : List Meaning) (f : Named → Named) → IsPiece subtypes e piece.entry f
         → IsNode subtypes e result (piece_of node text.now ms f) }
 {
     let Node { sense, .. } = plain(alloc, node, text);
