@@ -1,5 +1,6 @@
 -- Lists in brackets.
-use Rattle.std.proofs.Common.{◌≡◌, ◌≢◌, ◌<◌, ◌≤◌, ◌∙◌, List, Option, [], ap, arith, false, get_or, if◌then◌else◌, length, refl, subst, sym, true, ◌∷◌, ℕ}
+use Rattle.std.proofs.Common.{◌≡◌, ◌≢◌, ◌∙◌, Err, IfOk, List, Ok, Option, Result, [], ap, arith, false, get_or, if◌then◌else◌, length, refl, subst, sym, true, ◌∷◌, ℕ}
+use Rattle.vd_composites.specs.Composites.{Value}
 use Rattle.vd_composites.specs.Subtypes.{Subtype}
 use Rattle.vd_environments.specs.Environments.{Env, Static, only_global}
 use Rattle.vd_environments.specs.Got.{Got}
@@ -10,42 +11,26 @@ use Rattle.vd_meaning.specs.Facets.{Meaning, known_of}
 use Rattle.vd_meaning.specs.Facets as facets
 use Rattle.vd_static_entries.specs.Entries.{IsFound}
 use Rattle.vd_static_entries.specs.Nodes.{AreNodes, IsNode}
-use Rattle.vd_static_entries.specs.Senses.{association_of}
 use Rattle.vd_static_entries.specs.declared.nodes.Node.{Node}
-use Rattle.vd_static_entries.specs.declared.senses.Association.{Association}
-use Rattle.vd_static_entries.specs.declared.senses.Association.TheVariants.{ByChoices, ForOthers, Positional}
+use Rattle.vd_values.specs.declared.scalar.Scalar.{Scalar}
 
 -- ---- one part
 
-pub one_part : (xs : List Node) (x : Node) → 1 ≤ length xs → length xs < 2 → x ≡ get_or xs 0 x → xs ≡ x ∷ []
-one_part [] x some few is = absurd (omega arith)
-one_part (y ∷ []) x some few is = ap (λ z. z ∷ []) (sym is)
-one_part (y ∷ z ∷ xs) x some few is = absurd (omega arith)
+one_part : (xs : List Node) (x : Node) → length xs ≡ 1 → x ≡ get_or xs 0 x → xs ≡ x ∷ []
+one_part [] x one is = absurd (omega arith)
+one_part (y ∷ []) x one is = ap (λ z. z ∷ []) (sym is)
+one_part (y ∷ z ∷ xs) x one is = absurd (omega arith)
 
 alone_of : (subtypes : List (Forest IndicatedForm)) (e : Env) (P : List Meaning → Type 0) (x : Node) (ms : List Meaning)
     → AreNodes subtypes e (x ∷ []) ms → ((m : Meaning) → IsNode subtypes e x m → P (m ∷ [])) → P ms
-alone_of subtypes e P x [] are one = absurd are
-alone_of subtypes e P x (m ∷ []) are one = one m are.0
-alone_of subtypes e P x (m ∷ n ∷ ms) are one = absurd are.1
+alone_of subtypes e P x [] are holds = absurd are
+alone_of subtypes e P x (m ∷ []) are holds = holds m are.0
+alone_of subtypes e P x (m ∷ n ∷ ms) are holds = absurd are.1
 
 -- what holds of one part alone holds of a list that has no other
-pub alone : (subtypes : List (Forest IndicatedForm)) (e : Env) (P : List Meaning → Type 0) (xs : List Node) (x : Node) (ms : List Meaning)
-    → xs ≡ x ∷ [] → AreNodes subtypes e xs ms → ((m : Meaning) → IsNode subtypes e x m → P (m ∷ [])) → P ms
-alone subtypes e P xs x ms is are one = alone_of subtypes e P x ms (subst (λ ys. AreNodes subtypes e ys ms) is are) one
-
-pub alone_positional : (e : Env) (m : Meaning) (a : Association) → a ≡ Positional → m.association ≡ association_of a → m.known e ≡ bracketed_known (m ∷ []) e
-alone_positional e m a is same =
-    sym (ap (λ b. if b then m.known e else only_global (m.known e)) (ap is_positional (same ∙ ap association_of is)))
-
-not_positional : (a : Association) → a ≢ Positional → is_positional (association_of a) ≡ false
-not_positional Positional other = absurd (other refl)
-not_positional ByChoices other = refl
-not_positional ForOthers other = refl
-
-pub alone_other : (e : Env) (m : Meaning) (a : Association) → a ≢ Positional → m.association ≡ association_of a
-    → only_global (m.known e) ≡ bracketed_known (m ∷ []) e
-alone_other e m a other same =
-    sym (ap (λ b. if b then m.known e else only_global (m.known e)) (ap is_positional same ∙ not_positional a other))
+alone : (subtypes : List (Forest IndicatedForm)) (e : Env) (P : List Meaning → Type 0) (xs : List Node) (x : Node) (ms : List Meaning)
+    → length xs ≡ 1 → x ≡ get_or xs 0 x → AreNodes subtypes e xs ms → ((m : Meaning) → IsNode subtypes e x m → P (m ∷ [])) → P ms
+alone subtypes e P xs x ms one is are holds = alone_of subtypes e P x ms (subst (λ ys. AreNodes subtypes e ys ms) (one_part xs x one is) are) holds
 
 value_by : {A : Type 0} (a : facets.Association) (s : Static) (P : A → Type 0) (v w : A) → (s.is_local ≡ true → P v)
     → (if is_positional a then s else only_global s).is_local ≡ true → P (if is_positional a then v else w)
@@ -53,10 +38,22 @@ value_by facets.Positional s P v w found local = found local
 value_by facets.ByChoices s P v w found local = absurd (cc)
 value_by facets.ForOthers s P v w found local = absurd (cc)
 
-pub alone_value : (subtypes : List (Forest IndicatedForm)) (e : Env) (x : Node) (m : Meaning) (mark : Option ℕ) (given : Got Subtype)
+alone_value : (subtypes : List (Forest IndicatedForm)) (e : Env) (x : Node) (m : Meaning) (mark : Option ℕ) (given : Got Subtype)
     → IsNode subtypes e x m → (bracketed_known (m ∷ []) e).is_local ≡ true → IsFound x.sense.value (bracketed_value mark (m ∷ []) given e)
 alone_value subtypes e x m mark given is local =
     value_by m.association (m.known e) (λ f. IsFound x.sense.value (f given e)) m.value (aggregate mark (m ∷ [])) (λ own. is.sense.value own given) local
+
+copied : {E : Type 0} (answer : Result (Option (Value Scalar)) E) (v : Option (Value Scalar)) (g : Got (Value Scalar)) → IfOk answer (λ w. w ≡ v) → IsFound v g
+    → IfOk answer (λ w. IsFound w g)
+copied (Ok w) v g same found = subst (λ u. IsFound u g) (sym same) found
+copied (Err why) v g same found = tt
+
+pub alone_found : {E : Type 0} (subtypes : List (Forest IndicatedForm)) (e : Env) (answer : Result (Option (Value Scalar)) E) (xs : List Node) (x : Node) (ms : List Meaning)
+    (mark : Option ℕ) (given : Got Subtype) → length xs ≡ 1 → x ≡ get_or xs 0 x → IfOk answer (λ v. v ≡ x.sense.value) → AreNodes subtypes e xs ms
+    → (bracketed_known ms e).is_local ≡ true → IfOk answer (λ v. IsFound v (bracketed_value mark ms given e))
+alone_found subtypes e answer xs x ms mark given one is same are =
+    alone subtypes e (λ ns. (bracketed_known ns e).is_local ≡ true → IfOk answer (λ v. IsFound v (bracketed_value mark ns given e))) xs x ms one is are
+    (λ m is_node local. copied answer x.sense.value (bracketed_value mark (m ∷ []) given e) same (alone_value subtypes e x m mark given is_node local))
 
 -- ---- many parts, or none
 

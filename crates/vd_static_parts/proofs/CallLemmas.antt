@@ -1,24 +1,30 @@
 -- What calls come to.
-use Rattle.std.proofs.Common.{◌≡◌, ◌&&◌, ◌||◌, ◌∙◌, Bool, List, None, Option, Some, ap, false, if◌then◌else◌, nat_lt, subst, sym, true, ℕ}
+use Rattle.std.proofs.Common.{◌≡◌, ◌&&◌, ◌||◌, ◌∙◌, Bool, IfOk, List, None, Option, Result, Some, ap, false, if◌then◌else◌, nat_lt, subst, sym, true, ℕ}
+use Rattle.vd_composites.specs.Composites.{Value}
 use Rattle.vd_environments.specs.Environments.{Argument, Env, Indicated, Static, always, only_global}
-use Rattle.vd_environments.specs.Got.{is_got}
+use Rattle.vd_environments.specs.Got.{Got, is_got}
 use Rattle.vd_forest.specs.Store.{at}
 use Rattle.vd_indicated.specs.Indicated.{indicated_in}
 use Rattle.vd_meaning.specs.Names.{calls_known}
-use Rattle.vd_meaning.specs.Operators.{Operation, is_local_of, operate, operation, symbol}
+use Rattle.vd_meaning.specs.Operators.{Operation, function_of, is_local_of, operate, operation, symbol}
 use Rattle.vd_meaning.specs.Tables.{Table, is_brought, is_predefined, operand_types}
-use Rattle.vd_static_entries.specs.Entries.{IsFunction, IsGround, entry_at, operate_on, table_of}
+use Rattle.vd_static_entries.specs.Entries.{IsFound, IsFunction, IsGround, entry_at, operate_on, table_of}
 use Rattle.vd_static_entries.specs.declared.entries.Ground.{Ground}
 use Rattle.vd_static_values.proofs.OperationLemmas.{operated_at_mark}
 use Rattle.vd_value_rules.specs.Knowledge.{at_mark}
+use Rattle.vd_values.specs.declared.scalar.Scalar.{Scalar}
 
-pub where_true : {A : Type 0} (P : A → Type 0) (b : Bool) (v w : A) → b ≡ true → P v → P (if b then v else w)
-where_true P true v w is holds = holds
-where_true P false v w is holds = absurd (cc)
+-- what gives one thing gives its equal
+pub found_same : {E : Type 0} (answer : Result (Option (Value Scalar)) E) (f g : Got (Value Scalar)) → f ≡ g
+    → IfOk answer (λ x. IsFound x f) → IfOk answer (λ x. IsFound x g)
+found_same answer f g same found = subst (λ (h : Got (Value Scalar)). IfOk answer (λ x. IsFound x h)) same found
 
-pub where_false : {A : Type 0} (P : A → Type 0) (b : Bool) (v w : A) → b ≡ false → P w → P (if b then v else w)
-where_false P true v w is holds = absurd (cc)
-where_false P false v w is holds = holds
+-- ---- what is predefined
+
+pub predefined_value : (t : Table) (n : ℕ) (e : Env) (as' : List Argument) → is_predefined t n ≡ true
+    → operate (operation t n) (t.declared n).mark e as' ≡ function_of t n e as'
+predefined_value t n e as' is =
+    sym (ap (λ b. (if b then operate (operation t n) (t.declared n).mark e else (e.denotes n).function) as') is)
 
 -- ---- how static
 

@@ -33,9 +33,10 @@ fn alone_known(only: &Node<'_>) -> StaticSort
 pub fn bracketed_known(parts: &[Node<'_>]) -> StaticSort
     ensures { (subtypes : List (Forest IndicatedForm)) (e : Env) (ms : List Meaning) → AreNodes subtypes e parts.now ms → static_of result ≡ known_of_brackets ms e }
 {
-    match parts {
-        [only] => alone_known(only),
-        _ => known_of(parts).only_global(),
+    if parts.len() == 1 {
+        alone_known(&parts[0])
+    } else {
+        known_of(parts).only_global()
     }
 }
 
@@ -44,8 +45,9 @@ pub fn bracketed_value(alloc: Global, parts: &[Node<'_>]) -> Result<Option<Value
     ensures { (subtypes : List (Forest IndicatedForm)) (e : Env) (ms : List Meaning) (mark : Option ℕ) (given : Got Subtype) → AreNodes subtypes e parts.now ms
         → (known_of_brackets ms e).is_local ≡ true → IfOk result (λ v. IsFound v (value_of_brackets mark ms given e)) }
 {
-    match parts {
-        [only] => value_again(alloc, &only.sense.value),
-        _ => Ok(None),
+    if parts.len() == 1 {
+        value_again(alloc, &parts[0].sense.value)
+    } else {
+        Ok(None)
     }
 }
