@@ -16,10 +16,10 @@ use Rattle.vd_values.specs.declared.scalar.Scalar.{Scalar}
 
 -- ---- one part
 
-one_part : (xs : List Node) (x : Node) → length xs ≡ 1 → x ≡ get_or xs 0 x → xs ≡ x ∷ []
-one_part [] x one is = absurd (omega arith)
-one_part (y ∷ []) x one is = ap (λ z. z ∷ []) (sym is)
-one_part (y ∷ z ∷ xs) x one is = absurd (omega arith)
+one_part : (xs : List Node) (d : Node) → length xs ≡ 1 → xs ≡ get_or xs 0 d ∷ []
+one_part [] d one = absurd (omega arith)
+one_part (y ∷ []) d one = refl
+one_part (y ∷ z ∷ xs) d one = absurd (omega arith)
 
 alone_of : (subtypes : List (Forest IndicatedForm)) (e : Env) (P : List Meaning → Type 0) (x : Node) (ms : List Meaning)
     → AreNodes subtypes e (x ∷ []) ms → ((m : Meaning) → IsNode subtypes e x m → P (m ∷ [])) → P ms
@@ -28,9 +28,10 @@ alone_of subtypes e P x (m ∷ []) are holds = holds m are.0
 alone_of subtypes e P x (m ∷ n ∷ ms) are holds = absurd are.1
 
 -- what holds of one part alone holds of a list that has no other
-alone : (subtypes : List (Forest IndicatedForm)) (e : Env) (P : List Meaning → Type 0) (xs : List Node) (x : Node) (ms : List Meaning)
-    → length xs ≡ 1 → x ≡ get_or xs 0 x → AreNodes subtypes e xs ms → ((m : Meaning) → IsNode subtypes e x m → P (m ∷ [])) → P ms
-alone subtypes e P xs x ms one is are holds = alone_of subtypes e P x ms (subst (λ ys. AreNodes subtypes e ys ms) (one_part xs x one is) are) holds
+alone : (subtypes : List (Forest IndicatedForm)) (e : Env) (P : List Meaning → Type 0) (xs : List Node) (d : Node) (ms : List Meaning)
+    → length xs ≡ 1 → AreNodes subtypes e xs ms → ((m : Meaning) → IsNode subtypes e (get_or xs 0 d) m → P (m ∷ [])) → P ms
+alone subtypes e P xs d ms one are holds =
+    alone_of subtypes e P (get_or xs 0 d) ms (subst (λ ys. AreNodes subtypes e ys ms) (one_part xs d one) are) holds
 
 value_by : {A : Type 0} (a : facets.Association) (s : Static) (P : A → Type 0) (v w : A) → (s.is_local ≡ true → P v)
     → (if is_positional a then s else only_global s).is_local ≡ true → P (if is_positional a then v else w)
@@ -48,12 +49,13 @@ copied : {E : Type 0} (answer : Result (Option (Value Scalar)) E) (v : Option (V
 copied (Ok w) v g same found = subst (λ u. IsFound u g) (sym same) found
 copied (Err why) v g same found = tt
 
-pub alone_found : {E : Type 0} (subtypes : List (Forest IndicatedForm)) (e : Env) (answer : Result (Option (Value Scalar)) E) (xs : List Node) (x : Node) (ms : List Meaning)
-    (mark : Option ℕ) (given : Got Subtype) → length xs ≡ 1 → x ≡ get_or xs 0 x → IfOk answer (λ v. v ≡ x.sense.value) → AreNodes subtypes e xs ms
+pub alone_found : {E : Type 0} (subtypes : List (Forest IndicatedForm)) (e : Env) (answer : Result (Option (Value Scalar)) E) (xs : List Node) (d : Node) (ms : List Meaning)
+    (mark : Option ℕ) (given : Got Subtype) → length xs ≡ 1 → IfOk answer (λ v. v ≡ (get_or xs 0 d).sense.value) → AreNodes subtypes e xs ms
     → (bracketed_known ms e).is_local ≡ true → IfOk answer (λ v. IsFound v (bracketed_value mark ms given e))
-alone_found subtypes e answer xs x ms mark given one is same are =
-    alone subtypes e (λ ns. (bracketed_known ns e).is_local ≡ true → IfOk answer (λ v. IsFound v (bracketed_value mark ns given e))) xs x ms one is are
-    (λ m is_node local. copied answer x.sense.value (bracketed_value mark (m ∷ []) given e) same (alone_value subtypes e x m mark given is_node local))
+alone_found subtypes e answer xs d ms mark given one same are =
+    let x = get_or xs 0 d in
+    alone subtypes e (λ ns. (bracketed_known ns e).is_local ≡ true → IfOk answer (λ v. IsFound v (bracketed_value mark ns given e))) xs d ms one are
+    (λ m is local. copied answer x.sense.value (bracketed_value mark (m ∷ []) given e) same (alone_value subtypes e x m mark given is local))
 
 -- ---- many parts, or none
 

@@ -22,7 +22,6 @@ both_assoc a b c = λ i. record {
   is_global = and_assoc a.is_global b.is_global c.is_global i;
 }
 
-
 both_always : (a : Static) → both a always ≡ a
 both_always a = λ i. record { is_local = and-true a.is_local i; is_global = and-true a.is_global i }
 

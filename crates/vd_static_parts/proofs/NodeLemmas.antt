@@ -1,12 +1,9 @@
 -- What is known of nodes by what they are.
 use Rattle.std.proofs.Common.{◌≡◌, ◌∙◌, Global, List, Option, Vec, [], subst, sym, ℕ}
 use Rattle.vd_composites.specs.Composites.{Value}
-use Rattle.vd_composites.specs.Subtypes.{Subtype}
 use Rattle.vd_declarations.specs.declared.ids.DeclId.{DeclId}
 use Rattle.vd_environments.specs.Environments.{Env}
-use Rattle.vd_environments.specs.Got.{Got}
 use Rattle.vd_forest.specs.Forest.{Forest}
-use Rattle.vd_indicated.specs.Indicated.{static_of}
 use Rattle.vd_indicated.specs.declared.forms.IndicatedForm.{IndicatedForm}
 use Rattle.vd_meaning.specs.Facets.{Meaning, expression, of_node}
 use Rattle.vd_meaning.specs.Meanings.{piece_of, whole_name}

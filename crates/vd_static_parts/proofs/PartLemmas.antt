@@ -1,12 +1,12 @@
 -- Parts of nodes: one by its number, the last one, and what is known of all of them.
-use Rattle.std.proofs.Common.{◌≡◌, ◌-◌, List, Some, [], arith, get_or, length, refl, slice_get, subst, suc, zero, ◌∷◌, ℕ}
+use Rattle.std.proofs.Common.{◌≡◌, ◌-◌, List, None, Some, [], arith, get_or, length, refl, slice_get, subst, suc, zero, ◌∷◌, ℕ}
 use Rattle.std.proofs.lemmas.Option.{slice_get-get_or, slice_get_within}
 use Rattle.std.specs.List.{All}
 use Rattle.vd_environments.specs.Environments.{Env}
 use Rattle.vd_forest.specs.Forest.{Forest}
 use Rattle.vd_indicated.specs.declared.forms.IndicatedForm.{IndicatedForm}
-use Rattle.vd_meaning.specs.Facets.{Meaning, last_of, nth}
-use Rattle.vd_static_entries.specs.Nodes.{AreNodes}
+use Rattle.vd_meaning.specs.Facets.{Meaning, last_of, no_meaning, nth}
+use Rattle.vd_static_entries.specs.Nodes.{AreNodes, IsNode}
 use Rattle.vd_static_entries.specs.declared.nodes.Node.{Node}
 use Rattle.vd_static_parts.specs.Made.{IsSound}
 use Rattle.vd_static_parts.specs.Parts.{IsPart}
@@ -19,6 +19,15 @@ nth_part subtypes e n [] (m ∷ ms) are = absurd are
 nth_part subtypes e n (x ∷ xs) [] are = absurd are
 nth_part subtypes e zero (x ∷ xs) (m ∷ ms) are = are.0
 nth_part subtypes e (suc n) (x ∷ xs) (m ∷ ms) are = nth_part subtypes e n xs ms are.1
+
+-- where the code has found it, or has found none
+pub nth_here : (subtypes : List (Forest IndicatedForm)) (e : Env) (n : ℕ) (xs : List Node) (ms : List Meaning) (x : Node)
+    → AreNodes subtypes e xs ms → slice_get xs n ≡ Some x → IsNode subtypes e x (nth n ms)
+nth_here subtypes e n xs ms x are is = subst (λ o. IsPart subtypes e o (nth n ms)) is (nth_part subtypes e n xs ms are)
+
+pub nth_missing : (subtypes : List (Forest IndicatedForm)) (e : Env) (n : ℕ) (xs : List Node) (ms : List Meaning)
+    → AreNodes subtypes e xs ms → slice_get xs n ≡ None → nth n ms ≡ no_meaning
+nth_missing subtypes e n xs ms are is = subst (λ o. IsPart subtypes e o (nth n ms)) is (nth_part subtypes e n xs ms are)
 
 -- the last part
 last_at : (subtypes : List (Forest IndicatedForm)) (e : Env) (k : ℕ) (xs : List Node) (ms : List Meaning)

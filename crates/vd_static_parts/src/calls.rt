@@ -55,12 +55,7 @@ fn operator_value(
 {
     let operation = operation_of(ground.declarations, number);
     let stored = marked_subtype(ground, mark_of(ground.declarations, number));
-    operate(
-        alloc,
-        &operation,
-        &ground.subtypes.cursor(stored),
-        operands,
-    )
+    operate(alloc, &operation, &ground.subtypes.cursor(stored), operands)
 }
 
 /// What a function gives that is written in the text, where its calls are locally static.
@@ -79,12 +74,7 @@ fn function_value(
     };
     let operation = operation_of(ground.declarations, operator);
     let stored = subtype_of(ground, number);
-    operate(
-        alloc,
-        &operation,
-        &ground.subtypes.cursor(stored),
-        operands,
-    )
+    operate(alloc, &operation, &ground.subtypes.cursor(stored), operands)
 }
 
 /// What a call of a function gives whose calls can be locally static.
