@@ -1,5 +1,5 @@
 -- Parts of nodes.
-use Rattle.std.specs.Prelude.{◌≡◌, List, None, Option, Some, slice_get, ℕ}
+use Rattle.std.specs.Prelude.{◌≡◌, List, None, Option, Some}
 use Rattle.vd_environments.specs.Environments.{Env}
 use Rattle.vd_forest.specs.Forest.{Forest}
 use Rattle.vd_indicated.specs.declared.forms.IndicatedForm.{IndicatedForm}

@@ -92,13 +92,14 @@ pub fn expression<'a>(
 
 /// The same node, with a name.
 pub fn with_name<'a>(node: Node<'a>, name: KnownName) -> Node<'a>
-    ensures sound { (subtypes : List (Forest IndicatedForm)) → IsSound subtypes node → IsWithin subtypes name → IsSound subtypes result }
-    ensures node { (subtypes : List (Forest IndicatedForm)) (e : Env) (m : Meaning) (p : Named) → IsNode subtypes e node m → IsName subtypes e name p
+    ensures sound { (subtypes : List (Forest IndicatedForm)) → IsSound subtypes node.entry → IsWithin subtypes name → IsSound subtypes result }
+    ensures node { (subtypes : List (Forest IndicatedForm)) (e : Env) (m : Meaning) (p : Named) → IsNode subtypes e node.entry m → IsName subtypes e name p
         → IsNode subtypes e result (record m { name = p }) }
 {
+    let Node { sense, piece } = node;
     Node {
-        sense: Sense { name, ..node.sense },
-        piece: node.piece,
+        sense: Sense { name, ..sense },
+        piece,
     }
 }
 
@@ -115,25 +116,19 @@ pub fn named<'a>(
     let value = value_again(alloc, &name.value)?;
     let range = name.range;
     let made = expression(alloc, node, text, value, name.known);
-    let made = with_name(made, name);
+    let Node { sense, piece } = with_name(made, name);
     Ok(Node {
-        sense: Sense {
-            range,
-            ..made.sense
-        },
-        piece: made.piece,
+        sense: Sense { range, ..sense },
+        piece,
     })
 }
 
 /// A further piece of a name.
 pub fn piece<'a>(alloc: Global, node: Resolved, text: &'a [u8], piece: Piece<'a>) -> Node<'a>
-    ensures sound { (subtypes : List (Forest IndicatedForm)) → IsSoundPiece subtypes piece → IsSound subtypes result }
-    ensures node { (subtypes : List (Forest IndicatedForm)) (e : Env) (ms : List Meaning) (f : Named → Named) → IsPiece subtypes e piece f
+    ensures sound { (subtypes : List (Forest IndicatedForm)) → IsSoundPiece subtypes piece.entry → IsSound subtypes result }
+    ensures node { (subtypes : List (Forest IndicatedForm)) (e : Env) (ms : List Meaning) (f : Named → Named) → IsPiece subtypes e piece.entry f
         → IsNode subtypes e result (piece_of node text.now ms f) }
 {
-    let made = plain(alloc, node, text);
-    Node {
-        sense: made.sense,
-        piece,
-    }
+    let Node { sense, .. } = plain(alloc, node, text);
+    Node { sense, piece }
 }

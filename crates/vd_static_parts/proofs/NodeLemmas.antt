@@ -1,0 +1,110 @@
+-- What is known of nodes by what they are.
+use Rattle.std.proofs.Common.{◌≡◌, ◌∙◌, Global, List, Option, Vec, [], subst, sym, ℕ}
+use Rattle.vd_composites.specs.Composites.{Value}
+use Rattle.vd_declarations.specs.declared.ids.DeclId.{DeclId}
+use Rattle.vd_environments.specs.Environments.{Env}
+use Rattle.vd_forest.specs.Forest.{Forest}
+use Rattle.vd_indicated.specs.declared.forms.IndicatedForm.{IndicatedForm}
+use Rattle.vd_meaning.specs.Facets.{Meaning, expression, of_node}
+use Rattle.vd_meaning.specs.Meanings.{piece_of, whole_name}
+use Rattle.vd_meaning.specs.Names.{Named}
+use Rattle.vd_resolved.specs.declared.node.Resolved.{Resolved}
+use Rattle.vd_static_entries.specs.Entries.{IsFound}
+use Rattle.vd_static_entries.specs.Names.{IsName, IsRanging}
+use Rattle.vd_static_entries.specs.Senses.{IsSense}
+use Rattle.vd_static_entries.specs.declared.names.KnownName.{KnownName}
+use Rattle.vd_static_entries.specs.declared.names.Ranging.{Ranging}
+use Rattle.vd_static_entries.specs.declared.senses.Sense.{Sense}
+use Rattle.vd_values.specs.declared.scalar.Scalar.{Scalar}
+
+module _ (subtypes : List (Forest IndicatedForm)) (e : Env) (s : Sense) where
+  -- with another name
+  pub named_sense : (m : Meaning) (x : KnownName) (p : Named) → IsSense subtypes e s m → IsName subtypes e x p
+      → IsSense subtypes e (record s { name = x }) (record m { name = p })
+  named_sense m x p is named = record {
+    text = is.text;
+    declaration = is.declaration;
+    mark = is.mark;
+    position = is.position;
+    is_present = is.is_present;
+    known = is.known;
+    value = is.value;
+    range = is.range;
+    name = named;
+    association = is.association;
+    choices = is.choices;
+    is_open = is.is_open;
+  }
+
+  module _ (n : Resolved) (text : List ℕ) where
+    -- a name with all its pieces may stand for a range
+    pub whole_sense : (r : Ranging) (p : Named) → IsSense subtypes e s (record (expression n text [] (λ _. p.value) p.known) { name = p })
+        → IsRanging r p.range (p.known e) e → IsSense subtypes e (record s { range = r }) (whole_name n text p)
+    whole_sense r p is range = record {
+      text = is.text;
+      declaration = is.declaration;
+      mark = is.mark;
+      position = is.position;
+      is_present = is.is_present;
+      known = is.known;
+      value = is.value;
+      range = range;
+      name = is.name;
+      association = is.association;
+      choices = is.choices;
+      is_open = is.is_open;
+    }
+
+    -- a piece says of itself what any node does
+    pub piece_sense : (ms : List Meaning) (f : Named → Named) → IsSense subtypes e s (of_node n text ms) → IsSense subtypes e s (piece_of n text ms f)
+    piece_sense ms f is = record {
+      text = is.text;
+      declaration = is.declaration;
+      mark = is.mark;
+      position = is.position;
+      is_present = is.is_present;
+      known = is.known;
+      value = is.value;
+      range = is.range;
+      name = is.name;
+      association = is.association;
+      choices = is.choices;
+      is_open = is.is_open;
+    }
+
+    -- and as an expression it is one that stops
+    pub plain_sense : (ms : List Meaning)
+        → IsSense subtypes e s (expression n text ms (of_node n text ms).value (of_node n text ms).known) → IsSense subtypes e s (of_node n text ms)
+    plain_sense ms is = record {
+      text = is.text;
+      declaration = is.declaration;
+      mark = is.mark;
+      position = is.position;
+      is_present = is.is_present;
+      known = is.known;
+      value = is.value;
+      range = is.range;
+      name = is.name;
+      association = is.association;
+      choices = is.choices;
+      is_open = is.is_open;
+    }
+
+-- the same sense once more
+pub same_sense : (subtypes : List (Forest IndicatedForm)) (e : Env) (s : Sense) (m : Meaning) (v : Option (Value Scalar)) (x : KnownName) (cs : Vec (Option DeclId) Global)
+    → v ≡ s.value → x ≡ s.name → cs.items ≡ s.choices.items → IsSense subtypes e s m
+    → IsSense subtypes e (record s { value = v; name = x; choices = cs }) m
+same_sense subtypes e s m v x cs same_value same_name same_choices is = record {
+  text = is.text;
+  declaration = is.declaration;
+  mark = is.mark;
+  position = is.position;
+  is_present = is.is_present;
+  known = is.known;
+  value = λ local given. subst (λ w. IsFound w (m.value given e)) (sym same_value) (is.value local given);
+  range = is.range;
+  name = subst (λ y. IsName subtypes e y m.name) (sym same_name) is.name;
+  association = is.association;
+  choices = is.choices ∙ sym same_choices;
+  is_open = is.is_open;
+}
