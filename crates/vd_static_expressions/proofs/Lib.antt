@@ -1,4 +1,2 @@
 mod KindLemmas
 mod TreeLemmas
-mod nodes
-mod reading

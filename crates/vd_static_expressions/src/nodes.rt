@@ -69,8 +69,8 @@ fn listing<'a>(
         Listing::Association => association(alloc, parts),
         Listing::OthersAssociation => others_association(alloc, parts),
         Listing::Choices => choice_list(alloc, node, text, parts),
-        Listing::Others => Ok(any_choice(alloc, node, text)),
-        Listing::Open => Ok(open_actual(alloc, node, text)),
+        Listing::Others => any_choice(alloc, node, text),
+        Listing::Open => open_actual(alloc, node, text),
     }
 }
 
@@ -93,8 +93,8 @@ fn range<'a>(
         RangeKind::Descending => limits(alloc, node, text, parts, true),
         RangeKind::OfMark => limits_of_mark(alloc, ground, node, text, parts),
         RangeKind::OpenIndex => open_index(alloc, parts),
-        RangeKind::MarkName => Ok(mark_name(alloc, node, text, parts)),
-        RangeKind::Constraint => Ok(constraint(alloc, node, text, parts)),
+        RangeKind::MarkName => mark_name(alloc, node, text, parts),
+        RangeKind::Constraint => constraint(alloc, node, text, parts),
     }
 }
 
@@ -119,8 +119,8 @@ fn piece<'a>(
         PieceKind::WholeName => whole_name(alloc, ground, fields, node, text, parts),
         PieceKind::Selection => selection_piece(alloc, ground, node, text),
         PieceKind::Arguments => arguments_piece(alloc, ground, node, text, parts),
-        PieceKind::Attribute => Ok(attribute_piece(alloc, node, text, parts)),
-        PieceKind::Range => Ok(range_piece(alloc, node, text)),
+        PieceKind::Attribute => attribute_piece(alloc, node, text, parts),
+        PieceKind::Range => range_piece(alloc, node, text),
         PieceKind::Qualification => qualification_piece(alloc, ground, node, text, parts),
     }
 }

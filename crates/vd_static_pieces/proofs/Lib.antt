@@ -1,0 +1,5 @@
+pub mod FirstLemmas
+pub mod ArgumentLemmas
+pub mod CallLemmas
+pub mod PieceLemmas
+pub mod NameLemmas
