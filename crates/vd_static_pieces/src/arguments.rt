@@ -80,8 +80,8 @@ fn argument_value(alloc: Global, argument: Option<&Node<'_>>) -> Result<Option<V
 
 /// The values of the arguments in the order of the parameters.
 ///
-/// It goes over the elements once for each parameter. Only predefined operators are evaluated, and functions that stand for them, and these have one
-/// parameter or two: over the calls of a text that is linear in the text.
+/// It goes over the elements once for each parameter. That is linear in the text, since it is done only for calls that can be locally static: of
+/// predefined operators, and of functions that stand for them, which have one parameter or two.
 pub(crate) fn values_for(
     alloc: Global,
     parameters: &[DeclId],

@@ -161,7 +161,7 @@ fn element_or_slice(parts: &[Node<'_>]) -> Bracketed
         → IsBracketed subtypes e result (nth 0 ms).known p (index_or_range (nth 0 ms).range n ms p) }
 {
     match first_range(parts) {
-        Ranging::Range(_bounds) => Bracketed::Element,
+        Ranging::Range(bounds) => Bracketed::Slice(bounds),
         Ranging::NoRange => Bracketed::Element,
     }
 }
