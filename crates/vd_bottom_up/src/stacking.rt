@@ -1,6 +1,6 @@
 //! A forest looked at from its leaves on.
 
-ghost use Rattle.std.specs.Prelude.{◌∷◌, IfOk, List, OnOk, reverse};
+ghost use Rattle.std.specs.Prelude.{◌≡◌, ◌∷◌, IfOk, List, OnOk, reverse};
 ghost use Rattle.std.specs.List.{All};
 ghost use Rattle.vd_bottom_up.specs.Trees.{AreForests, AreSound, AreTrees, Takes};
 ghost use Rattle.vd_bytes.specs.declared.places.Place.{Place};
@@ -17,6 +17,11 @@ pub trait BottomUp<'a, F: Copy + Drop, S: Drop> {
 
     ghost is_sound: { Self → S → Type 0 };
 
+    /// What of the table stays.
+    ghost Frame: { Type 0 };
+
+    ghost frame: { Self → Frame };
+
     /// Whether it is what the first tree of a forest comes to.
     ghost comes_to: { Self → Forest F → S → Type 0 };
 
@@ -30,7 +35,8 @@ pub trait BottomUp<'a, F: Copy + Drop, S: Drop> {
         ensures comes_to { (place : Place) (inside behind : Forest F) → AreTrees (comes_to self.old) inside parts.now
             → IfOk result (λ s. comes_to self.old (more form text.now place inside behind) s) }
         ensures kept { (f : Forest F) (s : S) → comes_to self.old f s → comes_to self.new f s }
-        ensures as_before { (f : Forest F) (s : S) → comes_to self.new f s → comes_to self.old f s };
+        ensures as_before { (f : Forest F) (s : S) → comes_to self.new f s → comes_to self.old f s }
+        ensures same { frame self.new ≡ frame self.old };
 }
 
 /// Puts what the first tree of a forest comes to in front of what stands for the trees behind it. What stands for these and for the
@@ -50,6 +56,7 @@ fn step<'a, F: Copy + Drop, S: Drop, T: BottomUp<'a, F, S>>(
         → OnOk result (AreForests (T.comes_to by.old) (forest.now ∷ rest) (reverse stack.new.items)) }
     ensures kept { (f : Forest F) (s : S) → T.comes_to by.old f s → T.comes_to by.new f s }
     ensures as_before { (f : Forest F) (s : S) → T.comes_to by.new f s → T.comes_to by.old f s }
+    ensures same { T.frame by.new ≡ T.frame by.old }
 {
     let Some(first) = forest.open() else {
         stack.push(Vec::new(alloc))?;
@@ -77,6 +84,7 @@ pub fn bottom_up<'a, F: Copy + Drop, S: Drop, T: BottomUp<'a, F, S>>(
     ensures comes_to { IfOk result (λ made. AreTrees (T.comes_to by.old) from.now made.items) }
     ensures kept { (f : Forest F) (s : S) → T.comes_to by.old f s → T.comes_to by.new f s }
     ensures as_before { (f : Forest F) (s : S) → T.comes_to by.new f s → T.comes_to by.old f s }
+    ensures same { T.frame by.new ≡ T.frame by.old }
 {
     let forests = visits(alloc, from)?;
     let mut stack: Vec<Vec<S>> = Vec::new(alloc);

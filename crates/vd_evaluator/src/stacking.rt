@@ -30,6 +30,10 @@ impl<'a, 'd, 'e> BottomUp<'a, Resolved, Sense<'a>> for Evaluating<'d, 'e> {
 
     ghost is_sound = { λ by s. Unit {0} };
 
+    ghost Frame = { ⊤ };
+
+    ghost frame = { λ by. tt };
+
     ghost comes_to = { λ by. IsTree (table by.revision by.declarations.now) by.environment.now };
 
     fn node(

@@ -1,4 +1,4 @@
-use Rattle.std.proofs.Common.{◌-◌, ◌∷◌, arith, reverse}
+use Rattle.std.proofs.Common.{◌-◌, ◌∷◌, arith, reverse, ◌∙◌}
 use Rattle.vd_bottom_up.proofs.StackLemmas.{at_end, first_popped, forests_known, one_step, sound_turned}
 use Rattle.vd_bottom_up.proofs.stacking.bottom_up.Goals as goal
 
@@ -16,6 +16,7 @@ loop-left-preserved g c =
       kept = λ f s is. c.in_ok-step.ensures.kept f s (i.kept f s is);
       as_before = λ f s is. i.as_before f s (c.in_ok-step.ensures.as_before f s is);
       ready = c.in_ok-step.ensures.ready;
+      same = c.in_ok-step.ensures.same ∙ i.same;
       sound = c.in_ok-step.ensures.sound;
     }
 

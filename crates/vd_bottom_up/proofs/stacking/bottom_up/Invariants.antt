@@ -13,6 +13,7 @@ invariant-loop-left g l = record {
   kept : (f : Forest g.row.F.Denot) (s : g.row.S.Denot) → g.T.BottomUp.comes_to l.fn.by f s → g.T.BottomUp.comes_to l.by f s;
   as_before : (f : Forest g.row.F.Denot) (s : g.row.S.Denot) → g.T.BottomUp.comes_to l.by f s → g.T.BottomUp.comes_to l.fn.by f s;
   ready : g.T.BottomUp.is_ready l.by;
+  same : g.T.BottomUp.frame l.by ≡ g.T.BottomUp.frame l.fn.by;
   sound : AreSound (g.T.BottomUp.is_sound l.by) l.stack.items;
 }
 
