@@ -23,6 +23,7 @@ struct Evaluating<'d, 'e> {
 }
 
 impl<'a, 'd, 'e> BottomUp<'a, Resolved, Sense<'a>> for Evaluating<'d, 'e> {
+    ghost use Rattle.std.specs.Prelude.{⊤};
     ghost use Rattle.vd_evaluator.specs.Senses.{IsTree};
     ghost use Rattle.vd_meaning.specs.Tables.{table};
 

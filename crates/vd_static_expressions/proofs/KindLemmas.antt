@@ -1,5 +1,6 @@
 -- What a node of a kind comes to, by what is made of it.
 use Rattle.std.proofs.Common.{◌≡◌, List, [], false, refl, subst, true, ℕ}
+use Rattle.std.specs.Prelude.{Err, IfOk, Ok, Result}
 use Rattle.vd_environments.specs.Environments.{Env}
 use Rattle.vd_forest.specs.Forest.{Forest}
 use Rattle.vd_indicated.specs.declared.forms.IndicatedForm.{IndicatedForm}
@@ -12,6 +13,7 @@ use Rattle.vd_static_entries.specs.Nodes.{IsNode}
 use Rattle.vd_static_entries.specs.declared.entries.Ground.{Ground}
 use Rattle.vd_static_entries.specs.declared.nodes.Node.{Node}
 use Rattle.vd_static_expressions.specs.Kinds.{IsMadeAs, node_kind}
+use Rattle.vd_static_expressions.specs.declared.kinds.NodeKind.{NodeKind}
 use Rattle.vd_static_parts.specs.Made.{IsMade}
 
 -- what of a meaning is looked at
@@ -156,3 +158,8 @@ made_as Kinds.Everything g n text parts x made = λ e ms ground nodes. alike g.s
 made_as Kinds.AssignConcurrently g n text parts x made = λ e ms ground nodes. alike g.subtypes.now e x (of_node n [] ms) (meaning_of Kinds.AssignConcurrently (table_of g) n text ms) refl (made g.subtypes.now e ms)
 made_as Kinds.OneProcess g n text parts x made = λ e ms ground nodes. alike g.subtypes.now e x (of_node n text ms) (meaning_of Kinds.OneProcess (table_of g) n text ms) refl (made g.subtypes.now e ms)
 made_as Kinds.Concurrent g n text parts x made = λ e ms ground nodes. alike g.subtypes.now e x (of_node n text ms) (meaning_of Kinds.Concurrent (table_of g) n text ms) refl (made g.subtypes.now e ms)
+
+pub each_made : {E : Type 0} (k : Kinds.Kind) (s : NodeKind) (g : Ground) (n : Resolved) (text : List ℕ) (parts : List Node) (r : Result Node E) → s ≡ node_kind k
+    → IfOk r (IsMadeAs s g n text parts) → IfOk r (IsMade k g n text parts)
+each_made k s g n text parts (Ok x) is made = made_as k g n text parts x (subst (λ t. IsMadeAs t g n text parts x) is made)
+each_made k s g n text parts (Err e) is made = tt

@@ -26,6 +26,7 @@ struct Reading<'d> {
 
 impl<'a, 'd> BottomUp<'a, Resolved, Node<'a>> for Reading<'d> {
     ghost use Rattle.vd_indicated_fields.specs.Jumps.{AreJumps};
+    ghost use Rattle.vd_static_entries.specs.declared.entries.Ground.{Ground};
     ghost use Rattle.vd_static_expressions.specs.Found.{IsKnownNode};
     ghost use Rattle.vd_static_names.specs.Known.{HasSubtypes};
     ghost use Rattle.vd_static_parts.specs.Made.{IsSound};
@@ -33,6 +34,10 @@ impl<'a, 'd> BottomUp<'a, Resolved, Node<'a>> for Reading<'d> {
     ghost is_ready = { λ by. HasSubtypes by.ground × AreJumps by.fields.jumps.items by.ground.subtypes.now };
 
     ghost is_sound = { λ by. IsSound by.ground.subtypes.now };
+
+    ghost Frame = { Ground };
+
+    ghost frame = { λ by. by.ground };
 
     ghost comes_to = { λ by. IsKnownNode by.ground };
 
