@@ -27,14 +27,9 @@ pub fn later_objects(
 {
     let shape = default_shape(&design.table.subtypes.store().cursor(of.own))?;
     for number in numbers {
-        design.table.set_object(
-            number.number(),
-            of.own,
-            of.choosing,
-            None,
-            known,
-            shape,
-        )?;
+        design
+            .table
+            .set_object(number.number(), of.own, of.choosing, None, known, shape)?;
     }
     Ok(())
 }
