@@ -2,8 +2,8 @@
 //! (IEEE 1076, static expressions; subtype declarations)
 #![tactic(auto)]
 
+pub mod evaluating;
 pub mod indications;
-pub mod nodes;
 
 pub use indications::indicated_twice;
-pub use nodes::nodes;
+pub use evaluating::nodes;

@@ -1,0 +1,2 @@
+mod IndicationLemmas
+mod PlaceLemmas

@@ -1,0 +1,3 @@
+pub mod ChoiceLemmas
+pub mod ElementLemmas
+pub mod OperatorLemmas

@@ -1,0 +1,18 @@
+-- Choices, by what is known of their nodes. (IEEE 1076, aggregates; static expressions.)
+use Rattle.std.specs.Prelude.{◌∷◌, List, None, Option, Some, [], map, ℕ}
+use Rattle.vd_environments.specs.Environments.{Static, always, both}
+use Rattle.vd_indicated.specs.Indicated.{static_of}
+use Rattle.vd_static_entries.specs.declared.nodes.Node.{Node}
+
+-- a choice without a type makes nothing less static
+abbrev pub known_with : Option ℕ → Static → Static
+known_with None known = always
+known_with (Some mark) known = known
+
+abbrev pub known_among : List Node → Static
+known_among [] = always
+known_among (x ∷ xs) = both (known_with x.sense.mark (static_of x.sense.known)) (known_among xs)
+
+-- what each of them names
+abbrev pub named_among : List Node → List (Option ℕ)
+named_among xs = map (λ x. x.sense.declaration) xs
