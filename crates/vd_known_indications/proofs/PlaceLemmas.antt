@@ -1,12 +1,10 @@
 -- What is evaluated over where something is known.
-use Rattle.std.proofs.Common.{◌≡◌, ◌≤◌, ◌∷◌, List, length, subst, sym, ℕ}
-use Rattle.vd_indicated.specs.declared.forms.IndicatedForm.{IndicatedForm}
-use Rattle.vd_forest.specs.Forest.{Forest}
-use Rattle.vd_known_designs.specs.Designs.{IsReady, Knows}
+use Rattle.std.proofs.Common.{◌≡◌, ◌∷◌, List, subst}
+use Rattle.vd_known_designs.specs.Designs.{IsReady}
 use Rattle.vd_known_designs.specs.declared.design.KnownDesign.{KnownDesign}
 use Rattle.vd_known_tables.specs.Known.{AreKnown}
-use Rattle.vd_meaning.specs.Tables.{Table, table}
-use Rattle.vd_static_entries.specs.Entries.{IsGround, entry_at}
+use Rattle.vd_meaning.specs.Tables.{table}
+use Rattle.vd_static_entries.specs.Entries.{IsGround}
 use Rattle.vd_static_entries.specs.declared.entries.Ground.{Ground}
 use Rattle.vd_static_names.specs.Known.{HasSubtypes}
 use Rattle.vd_value_rules.specs.Knowledge.{Known}

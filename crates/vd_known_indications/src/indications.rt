@@ -36,13 +36,7 @@ pub fn early_range(sense: &Sense<'_>) -> Option<Bounds>
     ensures { (subtypes : List (Forest IndicatedForm)) (e : Env) (m : Meaning) → IsSense subtypes e sense.now m → result ≡ found (range_early m e) }
 {
     match sense.range {
-        Ranging::Range(range) => {
-            if sense.known.is_local {
-                range
-            } else {
-                None
-            }
-        }
+        Ranging::Range(range) => { if sense.known.is_local { range } else { None } }
         Ranging::NoRange => None,
     }
 }
@@ -57,18 +51,27 @@ fn mark_of(nodes: &[Node<'_>]) -> Option<DeclId>
     }
 }
 
-/// The constraint that the second of some nodes is, if there is one.
-fn constraint_of(nodes: &[Node<'_>]) -> Option<Constraint>
-    ensures { (subtypes : List (Forest IndicatedForm)) (e : Env) (ms : List Meaning) → AreNodes subtypes e nodes.now ms → IsConstraintIn e result (nth 1 ms) }
+/// The constraint that a node is, where there is one.
+fn constraint_at(sense: &Sense<'_>) -> Option<Constraint>
+    ensures { (subtypes : List (Forest IndicatedForm)) (e : Env) (m : Meaning) → IsSense subtypes e sense.now m → IsConstraintIn e result m }
 {
-    let node = nodes.get(1)?;
-    if node.sense.is_present {
+    if sense.is_present {
         Some(Constraint {
-            range: early_range(&node.sense),
-            known: node.sense.known,
+            range: early_range(sense),
+            known: sense.known,
         })
     } else {
         None
+    }
+}
+
+/// The constraint that the second of some nodes is, where there is one.
+fn constraint_of(nodes: &[Node<'_>]) -> Option<Constraint>
+    ensures { (subtypes : List (Forest IndicatedForm)) (e : Env) (ms : List Meaning) → AreNodes subtypes e nodes.now ms → IsConstraintIn e result (nth 1 ms) }
+{
+    match nodes.get(1) {
+        Some(node) => constraint_at(&node.sense),
+        None => None,
     }
 }
 

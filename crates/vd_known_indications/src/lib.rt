@@ -5,5 +5,5 @@
 pub mod evaluating;
 pub mod indications;
 
-pub use indications::indicated_twice;
 pub use evaluating::nodes;
+pub use indications::indicated_twice;

@@ -81,13 +81,40 @@ pub(crate) fn kind_of(form: Form) -> NodeKind
         Form::Attribute => NodeKind::Piece(PieceKind::Attribute),
         Form::RangeAttribute => NodeKind::Piece(PieceKind::Range),
         Form::Qualification => NodeKind::Piece(PieceKind::Qualification),
-        Form::Condition | Form::Nand | Form::Nor | Form::And | Form::Or | Form::Xor => NodeKind::Listing(Listing::Operator),
-        Form::Xnor | Form::Equal | Form::Unequal | Form::Less | Form::AtMost | Form::Greater => NodeKind::Listing(Listing::Operator),
-        Form::AtLeast | Form::MatchEqual | Form::MatchUnequal | Form::MatchLess | Form::MatchAtMost | Form::MatchGreater => NodeKind::Listing(Listing::Operator),
-        Form::MatchAtLeast | Form::ShiftLeftLogical | Form::ShiftRightLogical | Form::ShiftLeftArithmetic | Form::ShiftRightArithmetic | Form::RotateLeft => NodeKind::Listing(Listing::Operator),
-        Form::RotateRight | Form::Identity | Form::Negation | Form::Add | Form::Subtract | Form::Concatenate => NodeKind::Listing(Listing::Operator),
-        Form::Multiply | Form::Divide | Form::Modulo | Form::Remainder | Form::Absolute | Form::Not => NodeKind::Listing(Listing::Operator),
-        Form::AndReduction | Form::OrReduction | Form::XorReduction | Form::XnorReduction | Form::NandReduction | Form::NorReduction => NodeKind::Listing(Listing::Operator),
+        Form::Condition | Form::Nand | Form::Nor | Form::And | Form::Or | Form::Xor =>
+            NodeKind::Listing(Listing::Operator),
+        Form::Xnor | Form::Equal | Form::Unequal | Form::Less | Form::AtMost | Form::Greater =>
+            NodeKind::Listing(Listing::Operator),
+        Form::AtLeast
+        | Form::MatchEqual
+        | Form::MatchUnequal
+        | Form::MatchLess
+        | Form::MatchAtMost
+        | Form::MatchGreater => NodeKind::Listing(Listing::Operator),
+        Form::MatchAtLeast
+        | Form::ShiftLeftLogical
+        | Form::ShiftRightLogical
+        | Form::ShiftLeftArithmetic
+        | Form::ShiftRightArithmetic
+        | Form::RotateLeft => NodeKind::Listing(Listing::Operator),
+        Form::RotateRight
+        | Form::Identity
+        | Form::Negation
+        | Form::Add
+        | Form::Subtract
+        | Form::Concatenate => NodeKind::Listing(Listing::Operator),
+        Form::Multiply
+        | Form::Divide
+        | Form::Modulo
+        | Form::Remainder
+        | Form::Absolute
+        | Form::Not => NodeKind::Listing(Listing::Operator),
+        Form::AndReduction
+        | Form::OrReduction
+        | Form::XorReduction
+        | Form::XnorReduction
+        | Form::NandReduction
+        | Form::NorReduction => NodeKind::Listing(Listing::Operator),
         Form::Power => NodeKind::Listing(Listing::Operator),
         Form::Aggregate => NodeKind::Listing(Listing::Brackets),
         Form::Association => NodeKind::Listing(Listing::Association),
@@ -101,10 +128,28 @@ pub(crate) fn kind_of(form: Form) -> NodeKind
         Form::UnconstrainedIndex => NodeKind::Range(RangeKind::OpenIndex),
         Form::SelectedName => NodeKind::Range(RangeKind::MarkName),
         Form::IndexConstraint | Form::RangeConstraint => NodeKind::Range(RangeKind::Constraint),
-        Form::TypeDeclaration | Form::SubtypeDeclaration | Form::ConstantDeclaration | Form::VariableDeclaration | Form::FunctionBody | Form::FunctionInstantiation => NodeKind::Silent,
-        Form::Statements | Form::ElseBranch | Form::LabelledStatement | Form::SignalAssignment | Form::VariableAssignment | Form::SelectedSignalAssignment => NodeKind::Silent,
-        Form::SelectedVariableAssignment | Form::IfStatement | Form::CaseStatement | Form::WaitStatement | Form::AssertStatement | Form::ReportStatement => NodeKind::Silent,
-        Form::ReturnStatement | Form::ExitStatement | Form::NextStatement | Form::ConcurrentAssignment => NodeKind::Silent,
+        Form::TypeDeclaration
+        | Form::SubtypeDeclaration
+        | Form::ConstantDeclaration
+        | Form::VariableDeclaration
+        | Form::FunctionBody
+        | Form::FunctionInstantiation => NodeKind::Silent,
+        Form::Statements
+        | Form::ElseBranch
+        | Form::LabelledStatement
+        | Form::SignalAssignment
+        | Form::VariableAssignment
+        | Form::SelectedSignalAssignment => NodeKind::Silent,
+        Form::SelectedVariableAssignment
+        | Form::IfStatement
+        | Form::CaseStatement
+        | Form::WaitStatement
+        | Form::AssertStatement
+        | Form::ReportStatement => NodeKind::Silent,
+        Form::ReturnStatement
+        | Form::ExitStatement
+        | Form::NextStatement
+        | Form::ConcurrentAssignment => NodeKind::Silent,
         _ => NodeKind::Plain,
     }
 }
