@@ -3,7 +3,7 @@
 ghost use Rattle.std.specs.Prelude.{◌≡◌, [], IfOk, true};
 ghost use Rattle.vd_environments.specs.Environments.{Env};
 ghost use Rattle.vd_indicated.specs.Indicated.{static_of};
-ghost use Rattle.vd_meaning.specs.Names.{called_here as called_standing, calls_known as known_of_calls, first_piece as piece_standing, number_or as number_or_none};
+ghost use Rattle.vd_meaning.specs.Names.{called_here as called_standing, calls_known as known_of_calls, first_piece as piece_standing};
 ghost use Rattle.vd_meaning.specs.Operators.{function_of};
 ghost use Rattle.vd_static_entries.specs.Entries.{IsFound, IsGround, table_of};
 ghost use Rattle.vd_static_entries.specs.Names.{IsName};
@@ -11,7 +11,7 @@ ghost use Rattle.vd_static_names.specs.Known.{HasSubtypes, IsWithin};
 
 use std::alloc::{AllocError, Global};
 use vd_composites::Value;
-use vd_declarations::{DeclId, TypeId};
+use vd_declarations::TypeId;
 use vd_facets::{Role, role_of};
 use vd_indicated::StaticSort;
 use vd_operations::tables::followed;
@@ -21,16 +21,7 @@ use vd_static_names::calls::{called, calls_known};
 use vd_static_names::firsts::{literal, mark, object, signal};
 use vd_static_names::values::no_name;
 use vd_static_parts::calls::call_value;
-
-/// The number of a declaration, where there is one.
-fn number_or(declaration: Option<DeclId>) -> u32
-    ensures { result ≡ number_or_none declaration }
-{
-    match declaration {
-        Some(declaration) => declaration.number(),
-        None => 0,
-    }
-}
+use vd_static_parts::numbers::number_or;
 
 /// What a call without operands gives, where the calls of its function can be locally static.
 fn value_of_call(

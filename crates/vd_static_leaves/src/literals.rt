@@ -5,12 +5,10 @@ ghost use Rattle.vd_environments.specs.Environments.{Env, all_bounds};
 ghost use Rattle.vd_forest.specs.Forest.{Forest};
 ghost use Rattle.vd_indicated.specs.Indicated.{static_of};
 ghost use Rattle.vd_indicated.specs.declared.forms.IndicatedForm.{IndicatedForm};
-ghost use Rattle.vd_meaning.specs.Facets.{Meaning, nth};
 ghost use Rattle.vd_meaning.specs.Kinds.{CharacterLiteral, NumberLiteral, StringLiteral, TimeLiteral};
 ghost use Rattle.vd_meaning.specs.Meanings.{string_value as value_of_string};
 ghost use Rattle.vd_meaning.specs.Names.{number_or};
 ghost use Rattle.vd_static_entries.specs.Entries.{IsFound, IsGround};
-ghost use Rattle.vd_static_entries.specs.Nodes.{AreNodes};
 ghost use Rattle.vd_static_entries.specs.declared.entries.Ground.{Ground as AnyGround};
 ghost use Rattle.vd_static_entries.specs.declared.nodes.Node.{Node as AnyNode};
 ghost use Rattle.vd_static_names.specs.Known.{HasSubtypes};
@@ -27,6 +25,8 @@ use vd_static_names::firsts::literal;
 use vd_static_names::grounds::{bounds_of, subtype_of};
 use vd_static_names::values::unless_stopped;
 use vd_static_parts::nodes::{expression, with_name};
+use vd_static_parts::numbers::mark_number;
+use vd_static_parts::parts::text_of;
 use vd_static_values::{integer, physical, string};
 
 // ---- characters and strings
@@ -70,11 +70,7 @@ fn string_value(
 fn bounds_known(ground: &Ground<'_>, mark: Option<TypeId>) -> StaticSort
     ensures { (e : Env) → IsGround ground.now e → static_of result ≡ all_bounds (e.denotes (number_or mark)).make }
 {
-    let number = match mark {
-        Some(mark) => mark.number(),
-        None => 0,
-    };
-    bounds_of(ground, number)
+    bounds_of(ground, mark_number(mark))
 }
 
 /// A string or bit string literal.
@@ -107,16 +103,6 @@ pub fn number_literal<'a>(
 {
     let value = integer(alloc, text)?;
     Ok(expression(alloc, node, text, value, StaticSort::always()))
-}
-
-/// The text of a part.
-fn text_of<'a>(parts: &[Node<'a>], number: usize) -> &'a [u8]
-    ensures { (subtypes : List (Forest IndicatedForm)) (e : Env) (ms : List Meaning) → AreNodes subtypes e parts.now ms → result.now ≡ (nth number ms).text }
-{
-    match parts.get(number) {
-        Some(part) => part.sense.text,
-        None => &[],
-    }
 }
 
 /// A physical literal: a number and a unit.

@@ -1,6 +1,5 @@
 -- What is known of choices.
-use Rattle.std.proofs.Common.{◌+◌, ◌<◌, ◌≡◌, ◌∙◌, ◌∷◌, Bool, List, None, Option, Some, [], ap, arith, drop, drop-cons, get_or, length, map, refl, suc, sym, ℕ}
-use Rattle.std.proofs.Math.Bool.{and_assoc}
+use Rattle.std.proofs.Common.{◌≡◌, ◌∙◌, ◌∷◌, Bool, List, None, Option, Some, [], ap, map, refl, sym, ℕ}
 use Rattle.std.specs.Global.{Global}
 use Rattle.std.specs.Prelude.{Vec}
 use Rattle.vd_composites.specs.Composites.{Value}
@@ -20,27 +19,6 @@ use Rattle.vd_static_lists.specs.Choices.{known_among, known_with, named_among}
 use Rattle.vd_values.specs.declared.scalar.Scalar.{Scalar}
 
 -- ---- how static
-
-both_assoc : (a b c : Static) → both (both a b) c ≡ both a (both b c)
-both_assoc a b c = λ i. record {
-  is_local = and_assoc a.is_local b.is_local c.is_local i;
-  is_global = and_assoc a.is_global b.is_global c.is_global i;
-}
-
-drop_here : (xs : List Node) (n : ℕ) (x : Node) → n < length xs → x ≡ get_or xs n x → drop n xs ≡ x ∷ drop (n + 1) xs
-drop_here xs n x within is =
-    let next : suc n ≡ n + 1 = omega arith in
-    drop-cons xs n x within ∙ ap (λ y. y ∷ drop (suc n) xs) (sym is) ∙ ap (λ j. x ∷ drop j xs) next
-
--- one choice more
-pub known_more : (k next own whole : Static) (xs : List Node) (n : ℕ) (x : Node) → n < length xs → x ≡ get_or xs n x
-    → own ≡ known_with x.sense.mark (static_of x.sense.known) → next ≡ both k own
-    → both k (known_among (drop n xs)) ≡ whole → both next (known_among (drop (n + 1) xs)) ≡ whole
-known_more k next own whole xs n x within is owns more so_far =
-    ap (λ t. both t (known_among (drop (n + 1) xs))) (more ∙ ap (both k) owns)
-    ∙ both_assoc k (known_with x.sense.mark (static_of x.sense.known)) (known_among (drop (n + 1) xs))
-    ∙ sym (ap (λ ys. both k (known_among ys)) (drop_here xs n x within is))
-    ∙ so_far
 
 known_by : (mark : Option ℕ) (kn : Env → Static) (e : Env) → known_with mark (kn e) ≡ choice_known mark kn e
 known_by None kn e = refl
@@ -82,22 +60,5 @@ module _ (subtypes : List (Forest IndicatedForm)) (e : Env) where
       name = is.name;
       association = is.association;
       choices = names;
-      is_open = is.is_open;
-    }
-
-    pub any_sense : (covers : Comparison → Value Scalar → Env → Got Bool) → IsSense subtypes e s (of_node n text ms)
-        → IsSense subtypes e s (record (of_node n text ms) { covers = covers })
-    any_sense covers is = record {
-      text = is.text;
-      declaration = is.declaration;
-      mark = is.mark;
-      position = is.position;
-      is_present = is.is_present;
-      known = is.known;
-      value = is.value;
-      range = is.range;
-      name = is.name;
-      association = is.association;
-      choices = is.choices;
       is_open = is.is_open;
     }

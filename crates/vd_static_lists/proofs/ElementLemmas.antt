@@ -1,5 +1,5 @@
 -- What is known of elements of lists in brackets.
-use Rattle.std.proofs.Common.{◌≡◌, ◌∷◌, List, None, Option, Some, [], false, map, refl, slice_get, subst, suc, sym, true, zero, ℕ}
+use Rattle.std.proofs.Common.{◌≡◌, ◌∷◌, List, None, Option, Some, [], false, map, refl, slice_get, subst, sym, true, ℕ}
 use Rattle.std.specs.Global.{Global}
 use Rattle.std.specs.Prelude.{Vec}
 use Rattle.vd_composites.specs.Subtypes.{Subtype}
@@ -22,9 +22,7 @@ use Rattle.vd_static_entries.specs.declared.nodes.Node.{Node}
 use Rattle.vd_static_entries.specs.declared.senses.Association.TheVariants.{ByChoices, ForOthers}
 use Rattle.vd_static_entries.specs.declared.senses.Sense.{Sense}
 use Rattle.vd_static_lists.specs.Elements.{IsExpression, choices_in}
-use Rattle.vd_static_names.proofs.StopLemmas.{left_true, right_true}
-use Rattle.vd_static_parts.proofs.PartLemmas.{nth_part}
-use Rattle.vd_static_parts.specs.Parts.{IsPart}
+use Rattle.vd_static_parts.proofs.PartLemmas.{nth_local}
 
 -- what is known where a part is known is known where all are
 ranging_where : (r : Ranging) (range : Option (Env → Got Bounds)) (own all : Static) (e : Env) → (all.is_local ≡ true → own.is_local ≡ true)
@@ -35,26 +33,12 @@ ranging_where (Range b) None own all e where_all is = absurd is
 ranging_where (Range b) (Some range) own all e where_all is = λ local. is (where_all local)
 
 module _ (subtypes : List (Forest IndicatedForm)) (e : Env) where
-  part_local : (n : ℕ) (xs : List Node) (ms : List Meaning) (x : Node) → AreNodes subtypes e xs ms → slice_get xs n ≡ Some x
-      → (known_of ms e).is_local ≡ true → ((nth n ms).known e).is_local ≡ true
-  part_local n [] ms x are is local = absurd (cc)
-  part_local n (y ∷ xs) [] x are is local = absurd are
-  part_local zero (y ∷ xs) (m ∷ ms) x are is local = left_true (m.known e).is_local (known_of ms e).is_local local
-  part_local (suc n) (y ∷ xs) (m ∷ ms) x are is local =
-      part_local n xs ms x are.1 is (right_true (m.known e).is_local (known_of ms e).is_local local)
-
-  pub part_there : (n : ℕ) (xs : List Node) (ms : List Meaning) (x : Node) → AreNodes subtypes e xs ms → slice_get xs n ≡ Some x → IsNode subtypes e x (nth n ms)
-  part_there n xs ms x are is = subst (λ p. IsPart subtypes e p (nth n ms)) is (nth_part subtypes e n xs ms are)
-
-  pub part_missing : (n : ℕ) (xs : List Node) (ms : List Meaning) → AreNodes subtypes e xs ms → slice_get xs n ≡ None → nth n ms ≡ no_meaning
-  part_missing n xs ms are is = subst (λ p. IsPart subtypes e p (nth n ms)) is (nth_part subtypes e n xs ms are)
-
   pub expression_there : (xs : List Node) (ms : List Meaning) (x y : Node) → AreNodes subtypes e xs ms → slice_get xs 1 ≡ Some x
       → IsNode subtypes e y (nth 1 ms) → IsExpression subtypes e ms y
   expression_there xs ms x y are there is = record {
     node = is;
-    value = λ local. is.sense.value (part_local 1 xs ms x are there local);
-    range = ranging_where y.sense.range (nth 1 ms).range ((nth 1 ms).known e) (known_of ms e) e (part_local 1 xs ms x are there) is.sense.range;
+    value = λ local. is.sense.value (nth_local subtypes e 1 xs ms x are there local);
+    range = ranging_where y.sense.range (nth 1 ms).range ((nth 1 ms).known e) (known_of ms e) e (nth_local subtypes e 1 xs ms x are there) is.sense.range;
   }
 
   stopping : (s : Sense) → IsSense subtypes e s no_meaning → IsSense subtypes e (record s { value = None; range = NoRange }) no_meaning
@@ -125,20 +109,4 @@ module _ (subtypes : List (Forest IndicatedForm)) (e : Env) where
       association = refl;
       choices = is.choices;
       is_open = is.is_open;
-    }
-
-    pub opened : IsSense subtypes e (record s { is_open = true }) (record m { is_open = true })
-    opened = record {
-      text = is.text;
-      declaration = is.declaration;
-      mark = is.mark;
-      position = is.position;
-      is_present = is.is_present;
-      known = is.known;
-      value = is.value;
-      range = is.range;
-      name = is.name;
-      association = is.association;
-      choices = is.choices;
-      is_open = refl;
     }

@@ -1,6 +1,6 @@
 -- Choices, by what is known of their nodes. (IEEE 1076, aggregates; static expressions.)
-use Rattle.std.specs.Prelude.{◌∷◌, List, None, Option, Some, [], map, ℕ}
-use Rattle.vd_environments.specs.Environments.{Static, always, both}
+use Rattle.std.specs.Prelude.{List, None, Option, Some, map, ℕ}
+use Rattle.vd_environments.specs.Environments.{Static, all_static, always}
 use Rattle.vd_indicated.specs.Indicated.{static_of}
 use Rattle.vd_static_entries.specs.declared.nodes.Node.{Node}
 
@@ -10,8 +10,7 @@ known_with None known = always
 known_with (Some mark) known = known
 
 abbrev pub known_among : List Node → Static
-known_among [] = always
-known_among (x ∷ xs) = both (known_with x.sense.mark (static_of x.sense.known)) (known_among xs)
+known_among xs = all_static (map (λ x. known_with x.sense.mark (static_of x.sense.known)) xs)
 
 -- what each of them names
 abbrev pub named_among : List Node → List (Option ℕ)

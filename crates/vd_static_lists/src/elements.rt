@@ -8,7 +8,7 @@ ghost use Rattle.vd_indicated.specs.declared.forms.IndicatedForm.{IndicatedForm}
 ghost use Rattle.vd_meaning.specs.Facets.{Meaning, no_meaning, nth};
 ghost use Rattle.vd_meaning.specs.Kinds.{Associated, AssociatedOthers, OpenActual};
 ghost use Rattle.vd_resolved.specs.declared.node.Resolved.{Resolved as ResolvedNode};
-ghost use Rattle.vd_static_entries.specs.Nodes.{AreNodes, IsNode};
+ghost use Rattle.vd_static_entries.specs.Nodes.{AreNodes};
 ghost use Rattle.vd_static_entries.specs.declared.entries.Ground.{Ground};
 ghost use Rattle.vd_static_entries.specs.declared.nodes.Node.{Node as ListedNode};
 ghost use Rattle.vd_static_lists.specs.Elements.{IsExpression, choices_in};
@@ -18,7 +18,7 @@ use std::alloc::{AllocError, Global};
 use vd_declarations::DeclId;
 use vd_resolved::Resolved;
 use vd_static_entries::{Association, Node, Ranging, Sense};
-use vd_static_parts::copies::node_again;
+use vd_static_parts::copies::{first_again, node_again};
 use vd_static_parts::nodes::{absent, plain};
 use vd_static_parts::parts::known_of;
 
@@ -72,18 +72,6 @@ pub fn association<'a>(alloc: Global, parts: &[Node<'a>]) -> Result<Node<'a>, Al
         ..sense
     };
     Ok(Node { sense, piece })
-}
-
-/// The first part once more, or none where there is none.
-fn first_again<'a>(alloc: Global, parts: &[Node<'a>]) -> Result<Node<'a>, AllocError>
-    ensures sound { (subtypes : List (Forest IndicatedForm)) → All (IsSound subtypes) parts.now → IfOk result (IsSound subtypes) }
-    ensures node { (subtypes : List (Forest IndicatedForm)) (e : Env) (ms : List Meaning) → AreNodes subtypes e parts.now ms
-        → IfOk result (λ x. IsNode subtypes e x (nth 0 ms)) }
-{
-    match parts.first() {
-        Some(part) => node_again(alloc, part),
-        None => Ok(absent(alloc)),
-    }
 }
 
 /// An element for `others`.

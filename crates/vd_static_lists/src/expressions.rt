@@ -1,16 +1,14 @@
 //! Operators, and lists in brackets. (IEEE 1076, operators; aggregates; primaries.)
 
-ghost use Rattle.std.specs.Prelude.{◌≡◌, IfOk, List};
+ghost use Rattle.std.specs.Prelude.{IfOk, List};
 ghost use Rattle.vd_forest.specs.Forest.{Forest};
 ghost use Rattle.vd_indicated.specs.declared.forms.IndicatedForm.{IndicatedForm};
 ghost use Rattle.vd_meaning.specs.Kinds.{Brackets, Operator};
-ghost use Rattle.vd_meaning.specs.Names.{number_or as number_of_declaration};
 ghost use Rattle.vd_static_entries.specs.declared.entries.Ground.{Ground as GroundOf};
 ghost use Rattle.vd_static_names.specs.Known.{HasSubtypes};
 ghost use Rattle.vd_static_parts.specs.Made.{IsMade, IsSound};
 
 use std::alloc::{AllocError, Global};
-use vd_declarations::DeclId;
 use vd_operations::tables::followed;
 use vd_resolved::Resolved;
 use vd_static_entries::{Ground, Node};
@@ -19,17 +17,8 @@ use vd_static_names::values::unless_stopped;
 use vd_static_parts::brackets::{bracketed_known, bracketed_value};
 use vd_static_parts::calls::call_value;
 use vd_static_parts::nodes::expression;
+use vd_static_parts::numbers::number_or;
 use vd_static_parts::parts::{known_of, operands};
-
-/// The number of a declaration, where there is one, and else 0.
-fn number_or(declaration: Option<DeclId>) -> u32
-    ensures { result ≡ number_of_declaration declaration }
-{
-    match declaration {
-        Some(declaration) => declaration.number(),
-        None => 0,
-    }
-}
 
 /// An operator with its operands.
 pub fn operator<'a>(

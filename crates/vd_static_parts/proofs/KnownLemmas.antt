@@ -36,17 +36,17 @@ known_in_parts subtypes e (x ∷ xs) [] are = absurd are
 known_in_parts subtypes e (x ∷ xs) (m ∷ ms) are = λ i. both (are.0.sense.known i) (known_in_parts subtypes e xs ms are.1 i)
 
 -- one part more
-drop_here : (xs : List Node) (i : ℕ) (x : Node) → i < length xs → x ≡ get_or xs i x → drop i xs ≡ x ∷ drop (i + 1) xs
+pub drop_here : (xs : List Node) (i : ℕ) (x : Node) → i < length xs → x ≡ get_or xs i x → drop i xs ≡ x ∷ drop (i + 1) xs
 drop_here xs i x within is =
     let next : suc i ≡ i + 1 = omega arith in
     drop-cons xs i x within ∙ ap (λ y. y ∷ drop (suc i) xs) (sym is) ∙ ap (λ j. x ∷ drop j xs) next
 
-pub known_more : (k next whole : Static) (xs : List Node) (i : ℕ) (x : Node) → i < length xs → x ≡ get_or xs i x → next ≡ both k (static_of x.sense.known)
-    → both k (known_parts (drop i xs)) ≡ whole → both next (known_parts (drop (i + 1) xs)) ≡ whole
-known_more k next whole xs i x within is more so_far =
-    ap (λ n. both n (known_parts (drop (i + 1) xs))) more
-    ∙ both_assoc k (static_of x.sense.known) (known_parts (drop (i + 1) xs))
-    ∙ sym (ap (λ ys. both k (known_parts ys)) (drop_here xs i x within is))
+pub known_more : (f : Node → Static) (k next own whole : Static) (xs : List Node) (i : ℕ) (x : Node) → i < length xs → x ≡ get_or xs i x → own ≡ f x
+    → next ≡ both k own → both k (all_static (map f (drop i xs))) ≡ whole → both next (all_static (map f (drop (i + 1) xs))) ≡ whole
+known_more f k next own whole xs i x within is owns more so_far =
+    ap (λ t. both t (all_static (map f (drop (i + 1) xs)))) (more ∙ ap (both k) owns)
+    ∙ both_assoc k (f x) (all_static (map f (drop (i + 1) xs)))
+    ∙ sym (ap (λ ys. both k (all_static (map f ys))) (drop_here xs i x within is))
     ∙ so_far
 
 -- all parts

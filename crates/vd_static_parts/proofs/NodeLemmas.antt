@@ -1,12 +1,14 @@
 -- What is known of nodes by what they are.
-use Rattle.std.proofs.Common.{◌≡◌, ◌∙◌, Global, List, Option, Vec, [], subst, sym, ℕ}
+use Rattle.std.proofs.Common.{◌≡◌, ◌∙◌, Bool, Global, List, Option, Vec, [], refl, subst, sym, true, ℕ}
 use Rattle.vd_composites.specs.Composites.{Value}
 use Rattle.vd_declarations.specs.declared.ids.DeclId.{DeclId}
+use Rattle.vd_environments.specs.Commands.{Command}
 use Rattle.vd_environments.specs.Environments.{Env}
+use Rattle.vd_environments.specs.Got.{Got}
 use Rattle.vd_forest.specs.Forest.{Forest}
 use Rattle.vd_indicated.specs.declared.forms.IndicatedForm.{IndicatedForm}
-use Rattle.vd_meaning.specs.Facets.{Meaning, expression, of_node}
-use Rattle.vd_meaning.specs.Meanings.{piece_of, whole_name}
+use Rattle.vd_meaning.specs.Facets.{Comparison, Meaning, Waveform, expression}
+use Rattle.vd_meaning.specs.Meanings.{whole_name}
 use Rattle.vd_meaning.specs.Names.{Named}
 use Rattle.vd_resolved.specs.declared.node.Resolved.{Resolved}
 use Rattle.vd_static_entries.specs.Entries.{IsFound}
@@ -36,6 +38,42 @@ module _ (subtypes : List (Forest IndicatedForm)) (e : Env) (s : Sense) where
     is_open = is.is_open;
   }
 
+  -- these facets count for nothing where a value is looked for
+  pub unseen : (m : Meaning) (piece : Named → Named) (covers : Comparison → Value Scalar → Env → Got Bool) (chosen : (Waveform → Command) → Command)
+      (texts : List (List ℕ)) (numbers : List ℕ) → IsSense subtypes e s m
+      → IsSense subtypes e s (record m { piece = piece; covers = covers; chosen = chosen; texts = texts; numbers = numbers })
+  unseen m piece covers chosen texts numbers is = record {
+    text = is.text;
+    declaration = is.declaration;
+    mark = is.mark;
+    position = is.position;
+    is_present = is.is_present;
+    known = is.known;
+    value = is.value;
+    range = is.range;
+    name = is.name;
+    association = is.association;
+    choices = is.choices;
+    is_open = is.is_open;
+  }
+
+  -- open
+  pub opened : (m : Meaning) → IsSense subtypes e s m → IsSense subtypes e (record s { is_open = true }) (record m { is_open = true })
+  opened m is = record {
+    text = is.text;
+    declaration = is.declaration;
+    mark = is.mark;
+    position = is.position;
+    is_present = is.is_present;
+    known = is.known;
+    value = is.value;
+    range = is.range;
+    name = is.name;
+    association = is.association;
+    choices = is.choices;
+    is_open = refl;
+  }
+
   module _ (n : Resolved) (text : List ℕ) where
     -- a name with all its pieces may stand for a range
     pub whole_sense : (r : Ranging) (p : Named) → IsSense subtypes e s (record (expression n text [] (λ _. p.value) p.known) { name = p })
@@ -49,41 +87,6 @@ module _ (subtypes : List (Forest IndicatedForm)) (e : Env) (s : Sense) where
       known = is.known;
       value = is.value;
       range = range;
-      name = is.name;
-      association = is.association;
-      choices = is.choices;
-      is_open = is.is_open;
-    }
-
-    -- a piece says of itself what any node does
-    pub piece_sense : (ms : List Meaning) (f : Named → Named) → IsSense subtypes e s (of_node n text ms) → IsSense subtypes e s (piece_of n text ms f)
-    piece_sense ms f is = record {
-      text = is.text;
-      declaration = is.declaration;
-      mark = is.mark;
-      position = is.position;
-      is_present = is.is_present;
-      known = is.known;
-      value = is.value;
-      range = is.range;
-      name = is.name;
-      association = is.association;
-      choices = is.choices;
-      is_open = is.is_open;
-    }
-
-    -- and as an expression it is one that stops
-    pub plain_sense : (ms : List Meaning)
-        → IsSense subtypes e s (expression n text ms (of_node n text ms).value (of_node n text ms).known) → IsSense subtypes e s (of_node n text ms)
-    plain_sense ms is = record {
-      text = is.text;
-      declaration = is.declaration;
-      mark = is.mark;
-      position = is.position;
-      is_present = is.is_present;
-      known = is.known;
-      value = is.value;
-      range = is.range;
       name = is.name;
       association = is.association;
       choices = is.choices;

@@ -1,13 +1,14 @@
 -- Parts of nodes: one by its number, the last one, and what is known of all of them.
-use Rattle.std.proofs.Common.{◌≡◌, ◌-◌, List, None, Some, [], arith, get_or, length, refl, slice_get, subst, suc, zero, ◌∷◌, ℕ}
+use Rattle.std.proofs.Common.{◌≡◌, ◌-◌, List, None, Some, [], arith, get_or, length, refl, slice_get, subst, suc, true, zero, ◌∷◌, ℕ}
 use Rattle.std.proofs.lemmas.Option.{slice_get-get_or, slice_get_within}
 use Rattle.std.specs.List.{All}
 use Rattle.vd_environments.specs.Environments.{Env}
 use Rattle.vd_forest.specs.Forest.{Forest}
 use Rattle.vd_indicated.specs.declared.forms.IndicatedForm.{IndicatedForm}
-use Rattle.vd_meaning.specs.Facets.{Meaning, last_of, no_meaning, nth}
+use Rattle.vd_meaning.specs.Facets.{Meaning, known_of, last_of, no_meaning, nth}
 use Rattle.vd_static_entries.specs.Nodes.{AreNodes, IsNode}
 use Rattle.vd_static_entries.specs.declared.nodes.Node.{Node}
+use Rattle.vd_static_names.proofs.StopLemmas.{left_true, right_true}
 use Rattle.vd_static_parts.specs.Made.{IsSound}
 use Rattle.vd_static_parts.specs.Parts.{IsPart}
 
@@ -28,6 +29,15 @@ nth_here subtypes e n xs ms x are is = subst (λ o. IsPart subtypes e o (nth n m
 pub nth_missing : (subtypes : List (Forest IndicatedForm)) (e : Env) (n : ℕ) (xs : List Node) (ms : List Meaning)
     → AreNodes subtypes e xs ms → slice_get xs n ≡ None → nth n ms ≡ no_meaning
 nth_missing subtypes e n xs ms are is = subst (λ o. IsPart subtypes e o (nth n ms)) is (nth_part subtypes e n xs ms are)
+
+-- a part is locally static where all parts are
+pub nth_local : (subtypes : List (Forest IndicatedForm)) (e : Env) (n : ℕ) (xs : List Node) (ms : List Meaning) (x : Node)
+    → AreNodes subtypes e xs ms → slice_get xs n ≡ Some x → (known_of ms e).is_local ≡ true → ((nth n ms).known e).is_local ≡ true
+nth_local subtypes e n [] ms x are is local = absurd (cc)
+nth_local subtypes e n (y ∷ xs) [] x are is local = absurd are
+nth_local subtypes e zero (y ∷ xs) (m ∷ ms) x are is local = left_true (m.known e).is_local (known_of ms e).is_local local
+nth_local subtypes e (suc n) (y ∷ xs) (m ∷ ms) x are is local =
+    nth_local subtypes e n xs ms x are.1 is (right_true (m.known e).is_local (known_of ms e).is_local local)
 
 -- the last part
 last_at : (subtypes : List (Forest IndicatedForm)) (e : Env) (k : ℕ) (xs : List Node) (ms : List Meaning)

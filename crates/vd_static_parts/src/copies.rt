@@ -1,14 +1,16 @@
 //! Nodes once more.
 
+ghost use Rattle.std.specs.List.{All};
 ghost use Rattle.std.specs.Prelude.{◌≡◌, IfOk, List};
 ghost use Rattle.vd_environments.specs.Environments.{Env};
 ghost use Rattle.vd_forest.specs.Forest.{Forest};
 ghost use Rattle.vd_indicated.specs.declared.forms.IndicatedForm.{IndicatedForm};
-ghost use Rattle.vd_meaning.specs.Facets.{Meaning};
-ghost use Rattle.vd_static_entries.specs.Nodes.{IsNode};
+ghost use Rattle.vd_meaning.specs.Facets.{Meaning, nth};
+ghost use Rattle.vd_static_entries.specs.Nodes.{AreNodes, IsNode};
 ghost use Rattle.vd_static_entries.specs.Senses.{IsSense};
 ghost use Rattle.vd_static_parts.specs.Made.{IsSound};
 
+use crate::nodes::absent;
 use std::alloc::{AllocError, Global};
 use vd_declarations::DeclId;
 use vd_static_entries::{Arguments, Bracketed, Node, Piece, Sense};
@@ -108,4 +110,16 @@ pub fn node_again<'a>(alloc: Global, node: &Node<'a>) -> Result<Node<'a>, AllocE
     let sense = sense_again(alloc, &node.sense)?;
     let piece = piece_again(alloc, &node.piece)?;
     Ok(Node { sense, piece })
+}
+
+/// The first part once more, or none where there is none.
+pub fn first_again<'a>(alloc: Global, parts: &[Node<'a>]) -> Result<Node<'a>, AllocError>
+    ensures sound { (subtypes : List (Forest IndicatedForm)) → All (IsSound subtypes) parts.now → IfOk result (IsSound subtypes) }
+    ensures node { (subtypes : List (Forest IndicatedForm)) (e : Env) (ms : List Meaning) → AreNodes subtypes e parts.now ms
+        → IfOk result (λ x. IsNode subtypes e x (nth 0 ms)) }
+{
+    match parts.first() {
+        Some(part) => node_again(alloc, part),
+        None => Ok(absent(alloc)),
+    }
 }

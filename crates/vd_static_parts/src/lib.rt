@@ -6,4 +6,5 @@ pub mod brackets;
 pub mod calls;
 pub mod copies;
 pub mod nodes;
+pub mod numbers;
 pub mod parts;

@@ -5,15 +5,18 @@ ghost use Rattle.vd_environments.specs.Environments.{Env};
 ghost use Rattle.vd_forest.specs.Forest.{Forest};
 ghost use Rattle.vd_indicated.specs.Indicated.{static_of};
 ghost use Rattle.vd_indicated.specs.declared.forms.IndicatedForm.{IndicatedForm};
-ghost use Rattle.vd_meaning.specs.Facets.{Meaning, arguments, known_of as known_in};
+ghost use Rattle.vd_meaning.specs.Facets.{Meaning, arguments, known_of as known_in, nth};
+ghost use Rattle.vd_static_entries.specs.Names.{IsRanging};
 ghost use Rattle.vd_static_entries.specs.Nodes.{AreNodes};
 ghost use Rattle.vd_static_values.specs.Operands.{AreOperands};
 
 use std::alloc::{AllocError, Global};
 use vd_composites::Value;
 use vd_indicated::StaticSort;
-use vd_static_entries::Node;
+use vd_static_entries::{Node, Ranging};
 use vd_static_names::copies::value_again;
+
+// ---- all parts
 
 /// How static an expression is that is as static as each of its parts.
 pub fn known_of(parts: &[Node<'_>]) -> StaticSort
@@ -37,4 +40,37 @@ pub fn operands(alloc: Global, parts: &[Node<'_>]) -> Result<Vec<Option<Value>>,
         values.push(value)?;
     }
     Ok(values)
+}
+
+// ---- one part
+
+/// How static the first part is.
+pub fn first_known(parts: &[Node<'_>]) -> StaticSort
+    ensures { (subtypes : List (Forest IndicatedForm)) (e : Env) (ms : List Meaning) → AreNodes subtypes e parts.now ms → static_of result ≡ (nth 0 ms).known e }
+{
+    match parts.first() {
+        Some(first) => first.sense.known,
+        None => StaticSort::never(),
+    }
+}
+
+/// The range that the first part stands for, if it stands for one.
+pub fn first_range(parts: &[Node<'_>]) -> Ranging
+    ensures { (subtypes : List (Forest IndicatedForm)) (e : Env) (ms : List Meaning) → AreNodes subtypes e parts.now ms
+        → IsRanging result (nth 0 ms).range ((nth 0 ms).known e) e }
+{
+    match parts.first() {
+        Some(first) => first.sense.range,
+        None => Ranging::NoRange,
+    }
+}
+
+/// The text of a part.
+pub fn text_of<'a>(parts: &[Node<'a>], number: usize) -> &'a [u8]
+    ensures { (subtypes : List (Forest IndicatedForm)) (e : Env) (ms : List Meaning) → AreNodes subtypes e parts.now ms → result.now ≡ (nth number ms).text }
+{
+    match parts.get(number) {
+        Some(part) => part.sense.text,
+        None => &[],
+    }
 }

@@ -1,4 +1,3 @@
-pub mod FirstLemmas
 pub mod ArgumentLemmas
 pub mod CallLemmas
 pub mod PieceLemmas

@@ -1,22 +1,17 @@
 -- Names with their pieces, one behind the other.
-use Rattle.std.proofs.Common.{◌≡◌, ◌∷◌, ◌+◌, ◌<◌, ◌∙◌, Err, IfOk, List, None, Ok, Option, Result, Some, [], add-one, drop, drop-cons, false, get_or, is_some, length, refl, subst, true, ℕ}
+use Rattle.std.proofs.Common.{◌≡◌, ◌∷◌, List, None, Option, Some, [], drop, false, is_some, subst, true}
 use Rattle.vd_environments.specs.Environments.{Env}
 use Rattle.vd_forest.specs.Forest.{Forest}
 use Rattle.vd_indicated.specs.declared.forms.IndicatedForm.{IndicatedForm}
 use Rattle.vd_meaning.specs.Facets.{Meaning, from}
-use Rattle.vd_meaning.specs.Kinds
-use Rattle.vd_meaning.specs.Meanings.{meaning_of, named_by}
+use Rattle.vd_meaning.specs.Meanings.{named_by}
 use Rattle.vd_meaning.specs.Names.{Attributed, Callee, Named, NoCallee}
 use Rattle.vd_meaning.specs.Names as names
-use Rattle.vd_resolved.specs.declared.node.Resolved.{Resolved}
-use Rattle.vd_static_entries.specs.Entries.{IsGround, table_of}
 use Rattle.vd_static_entries.specs.Names.{IsName, callee_of, type_attribute}
-use Rattle.vd_static_entries.specs.Nodes.{AreNodes, IsNode, IsPiece}
-use Rattle.vd_static_entries.specs.declared.entries.Ground.{Ground}
+use Rattle.vd_static_entries.specs.Nodes.{AreNodes, IsPiece}
 use Rattle.vd_static_entries.specs.declared.names.KnownName.{KnownName}
 use Rattle.vd_static_entries.specs.declared.names.TypeAttribute.{TypeAttribute}
 use Rattle.vd_static_entries.specs.declared.nodes.Node.{Node}
-use Rattle.vd_static_parts.specs.Made.{IsMade}
 
 -- ---- what a next piece calls
 
@@ -37,17 +32,6 @@ nodes_behind subtypes e [] [] nodes = tt
 nodes_behind subtypes e [] (m ∷ ms) nodes = absurd nodes
 nodes_behind subtypes e (x ∷ xs) [] nodes = absurd nodes
 nodes_behind subtypes e (x ∷ xs) (m ∷ ms) nodes = nodes.1
-
-pub next_left : (xs : List Node) (i : ℕ) (x : Node) → i < length xs → x ≡ get_or xs i x → drop i xs ≡ x ∷ drop (i + 1) xs
-next_left xs i x within is = drop-cons xs i x within ∙ rw (add-one, ← is) refl
-
--- what holds of a node, if there is one, in each environment makes it what it is to be
-pub made_by : {E : Type 0} (r : Result Node E) (k : Kinds.Kind) (g : Ground) (n : Resolved) (text : List ℕ) (parts : List Node)
-    → ((e : Env) (ms : List Meaning) → IsGround g e → AreNodes g.subtypes.now e parts ms
-    → IfOk r (λ x. IsNode g.subtypes.now e x (meaning_of k (table_of g) n text ms)))
-    → IfOk r (IsMade k g n text parts)
-made_by (Ok x) k g n text parts made = made
-made_by (Err failure) k g n text parts made = tt
 
 -- With the pieces that are left the name comes to the whole one.
 pub record ComesTo (subtypes : List (Forest IndicatedForm)) (e : Env) (x : KnownName) (left : List Node) (whole : Named) : Type 0 where

@@ -1,34 +1,22 @@
 //! Attributes and qualified expressions as pieces of names. (IEEE 1076, attribute names; qualified expressions.)
 
-ghost use Rattle.std.specs.Prelude.{◌≡◌, IfOk, List};
-ghost use Rattle.vd_environments.specs.Environments.{Env};
+ghost use Rattle.std.specs.Prelude.{IfOk, List};
 ghost use Rattle.vd_forest.specs.Forest.{Forest};
 ghost use Rattle.vd_indicated.specs.declared.forms.IndicatedForm.{IndicatedForm};
-ghost use Rattle.vd_meaning.specs.Facets.{Meaning, nth};
 ghost use Rattle.vd_meaning.specs.Kinds;
-ghost use Rattle.vd_static_entries.specs.Nodes.{AreNodes};
 ghost use Rattle.vd_static_entries.specs.declared.entries.Ground.{Ground as AnyGround};
 ghost use Rattle.vd_static_entries.specs.declared.nodes.Node.{Node as AnyNode};
 ghost use Rattle.vd_static_names.specs.Known.{HasSubtypes};
 ghost use Rattle.vd_static_parts.specs.Made.{IsMade, IsSound};
 
-use crate::parts::number_or;
 use std::alloc::{AllocError, Global};
 use vd_resolved::Resolved;
 use vd_static_attributes::qualified;
 use vd_static_entries::{Ground, Node, Piece};
 use vd_static_parts::brackets::{bracketed_known, bracketed_value};
 use vd_static_parts::nodes::piece;
-
-/// The text of the first part.
-fn first_text<'a>(parts: &[Node<'a>]) -> &'a [u8]
-    ensures { (subtypes : List (Forest IndicatedForm)) (e : Env) (ms : List Meaning) → AreNodes subtypes e parts.now ms → result.now ≡ (nth 0 ms).text }
-{
-    match parts.first() {
-        Some(first) => first.sense.text,
-        None => &[],
-    }
-}
+use vd_static_parts::numbers::number_or;
+use vd_static_parts::parts::text_of;
 
 /// An attribute.
 pub fn attribute_piece<'a>(
@@ -41,7 +29,7 @@ pub fn attribute_piece<'a>(
     ensures node { (g : AnyGround) → IfOk result (IsMade Kinds.AttributePiece g node text.now parts.now) }
 {
     let attribute = Piece::Attribute {
-        name: first_text(parts),
+        name: text_of(parts, 0),
         mark: node.mark,
     };
     Ok(piece(alloc, node, text, attribute))

@@ -21,10 +21,9 @@ ghost use Rattle.vd_static_parts.specs.Made.{IsMade, IsSound, IsSoundBracketed};
 ghost use Rattle.vd_static_pieces.specs.Calls.{is_edge as is_edge_meant};
 
 use crate::arguments::values_for;
-use crate::parts::{first_known, first_name, first_range, first_value, number_or};
+use crate::parts::{first_name, first_value};
 use std::alloc::{AllocError, Global};
 use vd_composites::Value;
-use vd_declarations::TypeId;
 use vd_facets::{Role, role_of};
 use vd_given::numbers::{STD_LOGIC_VECTOR, STD_ULOGIC_VECTOR};
 use vd_indicated::StaticSort;
@@ -37,7 +36,8 @@ use vd_static_names::calls::{called, calls_known};
 use vd_static_names::values::fresh;
 use vd_static_parts::calls::call_value;
 use vd_static_parts::nodes::piece;
-use vd_static_parts::parts::known_of;
+use vd_static_parts::numbers::{mark_number, number_or};
+use vd_static_parts::parts::{first_known, first_range, known_of};
 
 // ---- calls
 
@@ -103,16 +103,6 @@ fn is_vector(mark: u32) -> bool
     ensures { result ≡ is_vector_type mark }
 {
     mark == STD_ULOGIC_VECTOR || mark == STD_LOGIC_VECTOR
-}
-
-/// The number of a type, or 0 where there is none.
-fn mark_number(mark: Option<TypeId>) -> u32
-    ensures { result ≡ or_zero mark }
-{
-    match mark {
-        Some(mark) => mark.number(),
-        None => 0,
-    }
 }
 
 /// The number of the type of the first part, or 0 where it has none.

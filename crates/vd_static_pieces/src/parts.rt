@@ -3,33 +3,19 @@
 ghost use Rattle.std.specs.Prelude.{◌≡◌, All, IfOk, List, true};
 ghost use Rattle.vd_environments.specs.Environments.{Env};
 ghost use Rattle.vd_forest.specs.Forest.{Forest};
-ghost use Rattle.vd_indicated.specs.Indicated.{static_of};
 ghost use Rattle.vd_indicated.specs.declared.forms.IndicatedForm.{IndicatedForm};
 ghost use Rattle.vd_meaning.specs.Facets.{Meaning, nth, value_of};
-ghost use Rattle.vd_meaning.specs.Names.{number_or as or_zero};
 ghost use Rattle.vd_static_entries.specs.Entries.{IsFound};
-ghost use Rattle.vd_static_entries.specs.Names.{IsName, IsRanging};
+ghost use Rattle.vd_static_entries.specs.Names.{IsName};
 ghost use Rattle.vd_static_entries.specs.Nodes.{AreNodes};
 ghost use Rattle.vd_static_names.specs.Known.{IsWithin};
 ghost use Rattle.vd_static_parts.specs.Made.{IsSound};
 
 use std::alloc::{AllocError, Global};
 use vd_composites::Value;
-use vd_declarations::DeclId;
-use vd_indicated::StaticSort;
-use vd_static_entries::{KnownName, Node, Ranging};
+use vd_static_entries::{KnownName, Node};
 use vd_static_names::copies::{again, value_again};
 use vd_static_names::values::no_name;
-
-/// The number of a declaration, or 0 where there is none.
-pub(crate) fn number_or(declaration: Option<DeclId>) -> u32
-    ensures { result ≡ or_zero declaration }
-{
-    match declaration {
-        Some(declaration) => declaration.number(),
-        None => 0,
-    }
-}
 
 /// The value of the first part, which counts only where it is locally static.
 pub(crate) fn first_value(alloc: Global, parts: &[Node<'_>]) -> Result<Option<Value>, AllocError>
@@ -39,27 +25,6 @@ pub(crate) fn first_value(alloc: Global, parts: &[Node<'_>]) -> Result<Option<Va
     match parts.first() {
         Some(first) => value_again(alloc, &first.sense.value),
         None => Ok(None),
-    }
-}
-
-/// How static the first part is.
-pub(crate) fn first_known(parts: &[Node<'_>]) -> StaticSort
-    ensures { (subtypes : List (Forest IndicatedForm)) (e : Env) (ms : List Meaning) → AreNodes subtypes e parts.now ms → static_of result ≡ (nth 0 ms).known e }
-{
-    match parts.first() {
-        Some(first) => first.sense.known,
-        None => StaticSort::never(),
-    }
-}
-
-/// The range that the first part stands for, if it stands for one.
-pub(crate) fn first_range(parts: &[Node<'_>]) -> Ranging
-    ensures { (subtypes : List (Forest IndicatedForm)) (e : Env) (ms : List Meaning) → AreNodes subtypes e parts.now ms
-        → IsRanging result (nth 0 ms).range ((nth 0 ms).known e) e }
-{
-    match parts.first() {
-        Some(first) => first.sense.range,
-        None => Ranging::NoRange,
     }
 }
 

@@ -1,5 +1,5 @@
 -- What is known of names of subtypes, and of indexes of any bounds.
-use Rattle.std.proofs.Common.{◌-◌, ◌≡◌, List, Option, Some, length, slice_get, subst, sym, true, ℕ}
+use Rattle.std.proofs.Common.{◌-◌, ◌≡◌, List, Option, Some, length, slice_get, subst, sym, ℕ}
 use Rattle.vd_environments.specs.Environments.{Env}
 use Rattle.vd_forest.specs.Forest.{Forest}
 use Rattle.vd_indicated.specs.declared.forms.IndicatedForm.{IndicatedForm}
@@ -14,22 +14,6 @@ use Rattle.vd_static_parts.specs.Parts.{IsPart}
 
 module _ (subtypes : List (Forest IndicatedForm)) (e : Env) where
   module _ (s : Sense) where
-    pub opened : (m : Meaning) → IsSense subtypes e s m → IsSense subtypes e (record s { is_open = true }) (record m { is_open = true })
-    opened m is = record {
-      text = is.text;
-      declaration = is.declaration;
-      mark = is.mark;
-      position = is.position;
-      is_present = is.is_present;
-      known = is.known;
-      value = is.value;
-      range = is.range;
-      name = is.name;
-      association = is.association;
-      choices = is.choices;
-      is_open = λ i. true;
-    }
-
     pub declaring : (n : Resolved) (text : List ℕ) (ms : List Meaning) (d c : Option ℕ) → IsSense subtypes e s (of_node n text ms) → d ≡ c
         → IsSense subtypes e (record s { declaration = d }) (record (of_node n text ms) { declaration = c })
     declaring n text ms d c is same = record {

@@ -1,16 +1,14 @@
 -- What is known of ranges.
-use Rattle.std.proofs.Common.{◌≡◌, ◌&&◌, Bool, List, None, Option, Some, ap, false, is_some, not, refl, slice_get, subst, sym, true, ℕ, ◌∙◌}
+use Rattle.std.proofs.Common.{◌≡◌, List, None, Option, Some, ap, false, refl, slice_get, subst, sym, true, ℕ, ◌∙◌}
 use Rattle.std.proofs.Math.Bool.{and-false}
 use Rattle.vd_composites.specs.Stops.{◌>>=◌}
 use Rattle.vd_composites.specs.declared.ranges.Bounds.{Bounds}
 use Rattle.vd_environments.specs.Environments.{Env, Static, both, never, unknown}
 use Rattle.vd_environments.specs.Got.{Got, is_got, senseless}
 use Rattle.vd_forest.specs.Forest.{Forest}
-use Rattle.vd_indicated.specs.Indicated.{static_of}
 use Rattle.vd_indicated.specs.declared.forms.IndicatedForm.{IndicatedForm}
-use Rattle.vd_indicated.specs.declared.statics.StaticSort.{StaticSort}
 use Rattle.vd_meaning.specs.Facets.{Meaning, expression, known_of, nth, of_node, value_of}
-use Rattle.vd_meaning.specs.Names.{name_bounds, position_in, unless_stopped}
+use Rattle.vd_meaning.specs.Names.{name_bounds, position_in}
 use Rattle.vd_resolved.specs.declared.node.Resolved.{Resolved}
 use Rattle.vd_static_entries.specs.Entries.{IsFound}
 use Rattle.vd_static_entries.specs.Names.{IsRanging}
@@ -19,7 +17,7 @@ use Rattle.vd_static_entries.specs.Senses.{IsSense}
 use Rattle.vd_static_entries.specs.declared.names.Ranging.{Ranging}
 use Rattle.vd_static_entries.specs.declared.nodes.Node.{Node}
 use Rattle.vd_static_entries.specs.declared.senses.Sense.{Sense}
-use Rattle.vd_static_ranges.proofs.PartLemmas.{part_local, part_missing, part_there}
+use Rattle.vd_static_parts.proofs.PartLemmas.{nth_here, nth_local, nth_missing}
 use Rattle.vd_static_ranges.specs.Ranges.{position_at}
 
 -- ---- nodes that stand for ranges
@@ -43,35 +41,15 @@ module _ (subtypes : List (Forest IndicatedForm)) (e : Env) (s : Sense) (n : Res
     is_open = is.is_open;
   }
 
--- a range that is locally static unless it stops
-local_by : (local : Bool) (b : Option Bounds) (g : Got Bounds) → (local ≡ true → IsFound b g) → (local && is_some b) ≡ (local && is_got g)
-local_by false b g found = refl
-local_by true None g found = sym (found refl)
-local_by true (Some b) g found = sym (ap is_got (found refl))
-
-pub unless_found : (k : StaticSort) (t : Static) (b : Option Bounds) (g : Got Bounds) → static_of k ≡ t → (t.is_local ≡ true → IsFound b g)
-    → static_of (record { is_local = k.is_local && is_some b; is_global = k.is_global }) ≡ unless_stopped g t
-unless_found k t b g same found =
-    ap (λ (u : Static). record u { is_local = u.is_local && is_some b }) same
-    ∙ (λ i. record { is_local = local_by t.is_local b g found i; is_global = t.is_global })
-
-not_both : (b : Bool) → not b ≡ true → b ≡ true → ⊥
-not_both true unlike like = cc
-not_both false unlike like = cc
-
--- what isn't locally static
-pub not_local : (k : StaticSort) (s : Static) → static_of k ≡ s → not k.is_local ≡ true → s.is_local ≡ true → ⊥
-not_local k s same unlike like = not_both k.is_local unlike (ap (λ (t : Static). t.is_local) same ∙ like)
-
 -- ---- limits
 
 module _ (subtypes : List (Forest IndicatedForm)) (e : Env) (n : ℕ) (xs : List Node) (ms : List Meaning) (are : AreNodes subtypes e xs ms) where
   -- the value of a part, which is there
   pub part_value : (x : Node) → (known_of ms e).is_local ≡ true → slice_get xs n ≡ Some x → IsFound x.sense.value (value_of (nth n ms) e)
-  part_value x local is = (part_there subtypes e n xs ms x are is).sense.value (part_local subtypes e n xs ms x are is local) unknown
+  part_value x local is = (nth_here subtypes e n xs ms x are is).sense.value (nth_local subtypes e n xs ms x are is local) unknown
 
   pub no_position : slice_get xs n ≡ None → is_got (position_at n ms e) ≡ false
-  no_position is = subst (λ (m : Meaning). is_got (value_of m e >>= position_in) ≡ false) (sym (part_missing subtypes e n xs ms are is)) refl
+  no_position is = subst (λ (m : Meaning). is_got (value_of m e >>= position_in) ≡ false) (sym (nth_missing subtypes e n xs ms are is)) refl
 
 -- ---- how static a range of a mark is
 
@@ -80,4 +58,4 @@ pub known_missing : (subtypes : List (Forest IndicatedForm)) (e : Env) (xs : Lis
 known_missing subtypes e xs ms are is =
     let own = name_bounds (nth 0 ms).name e in
     (λ i. record { is_local = sym (and-false own.is_local) i; is_global = sym (and-false own.is_global) i })
-    ∙ ap (λ (m : Meaning). both own (m.known e)) (sym (part_missing subtypes e 1 xs ms are is))
+    ∙ ap (λ (m : Meaning). both own (m.known e)) (sym (nth_missing subtypes e 1 xs ms are is))

@@ -6,10 +6,10 @@ ghost use Rattle.vd_environments.specs.Environments.{Env};
 ghost use Rattle.vd_forest.specs.Forest.{Forest};
 ghost use Rattle.vd_indicated.specs.declared.forms.IndicatedForm.{IndicatedForm};
 ghost use Rattle.vd_meaning.specs.Brackets.{or_else};
-ghost use Rattle.vd_meaning.specs.Facets.{Meaning, last_of, nth};
+ghost use Rattle.vd_meaning.specs.Facets.{Meaning, last_of};
 ghost use Rattle.vd_meaning.specs.Kinds.{MarkName, OpenIndex};
 ghost use Rattle.vd_resolved.specs.declared.node.Resolved.{Resolved as ResolvedNode};
-ghost use Rattle.vd_static_entries.specs.Nodes.{AreNodes, IsNode};
+ghost use Rattle.vd_static_entries.specs.Nodes.{AreNodes};
 ghost use Rattle.vd_static_entries.specs.declared.entries.Ground.{Ground};
 ghost use Rattle.vd_static_parts.specs.Made.{IsMade, IsSound};
 
@@ -17,20 +17,8 @@ use std::alloc::{AllocError, Global};
 use vd_declarations::DeclId;
 use vd_resolved::Resolved;
 use vd_static_entries::{Node, Sense};
-use vd_static_parts::copies::node_again;
-use vd_static_parts::nodes::{absent, plain};
-
-/// The first part once more, or none where there is none.
-fn first_again<'a>(alloc: Global, parts: &[Node<'a>]) -> Result<Node<'a>, AllocError>
-    ensures sound { (subtypes : List (Forest IndicatedForm)) → All (IsSound subtypes) parts.now → IfOk result (IsSound subtypes) }
-    ensures node { (subtypes : List (Forest IndicatedForm)) (e : Env) (ms : List Meaning) → AreNodes subtypes e parts.now ms
-        → IfOk result (λ x. IsNode subtypes e x (nth 0 ms)) }
-{
-    match parts.first() {
-        Some(part) => node_again(alloc, part),
-        None => Ok(absent(alloc)),
-    }
-}
+use vd_static_parts::copies::first_again;
+use vd_static_parts::nodes::plain;
 
 /// The index of an array type of any bounds.
 pub fn open_index<'a>(alloc: Global, parts: &[Node<'a>]) -> Result<Node<'a>, AllocError>

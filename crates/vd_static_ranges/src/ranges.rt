@@ -30,7 +30,7 @@ use vd_resolved::Resolved;
 use vd_static_entries::{Ground, KnownName, Node, Ranging, Sense};
 use vd_static_names::values::unless_stopped;
 use vd_static_parts::nodes::expression;
-use vd_static_parts::parts::known_of;
+use vd_static_parts::parts::{first_known, first_range, known_of};
 use vd_static_values::position;
 
 // ---- limits
@@ -154,28 +154,6 @@ pub fn limits_of_mark<'a>(
 }
 
 // ---- constraints
-
-/// The range of part 0.
-fn first_range(parts: &[Node<'_>]) -> Ranging
-    ensures { (subtypes : List (Forest IndicatedForm)) (e : Env) (ms : List Meaning) → AreNodes subtypes e parts.now ms
-        → IsRanging result (nth 0 ms).range ((nth 0 ms).known e) e }
-{
-    match parts.first() {
-        Some(part) => part.sense.range,
-        None => Ranging::NoRange,
-    }
-}
-
-/// How static part 0 is.
-fn first_known(parts: &[Node<'_>]) -> StaticSort
-    ensures { (subtypes : List (Forest IndicatedForm)) (e : Env) (ms : List Meaning) → AreNodes subtypes e parts.now ms
-        → static_of result ≡ (nth 0 ms).known e }
-{
-    match parts.first() {
-        Some(part) => part.sense.known,
-        None => StaticSort::never(),
-    }
-}
 
 /// A constraint: the range of part 0.
 pub fn constraint<'a>(

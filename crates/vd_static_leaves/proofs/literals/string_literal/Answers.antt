@@ -3,7 +3,7 @@ use Rattle.vd_meaning.specs.Facets.{expression}
 use Rattle.vd_meaning.specs.Meanings.{string_value}
 use Rattle.vd_meaning.specs.Names.{first_piece, number_or, unless_stopped}
 use Rattle.vd_static_entries.specs.Entries.{table_of}
-use Rattle.vd_static_leaves.proofs.LeafLemmas.{stopped_known}
+use Rattle.vd_static_parts.proofs.StaticLemmas.{unless_found}
 use Rattle.vd_static_leaves.proofs.literals.string_literal.Goals as goal
 
 pub returns-clause-node : goal.returns-clause-node
@@ -17,6 +17,7 @@ returns-clause-node c = λ parts e ms ground are.
     let found = c.in_ok-value.ensures e ground in
     c.with_name.ensures.node store e (expression node text ms (λ _. v) known) (first_piece (table_of c.args.ground.now) node)
     (c.expression.ensures.node store e ms (λ _. v) known
-    (stopped_known c.in_ok-value.value (v e) c.is_some.result c.bounds_known.result c.unless_stopped-known.result (bounds e) found c.is_some.ensures (c.bounds_known.ensures e ground) c.unless_stopped-known.ensures)
+    (unless_found c.in_ok-value.value (v e) c.is_some.result c.bounds_known.result c.unless_stopped-known.result (bounds e) (λ local. found) c.is_some.ensures
+    (c.bounds_known.ensures e ground) c.unless_stopped-known.ensures)
     (λ local given. found))
     (c.in_ok-name.ensures.named e ground)

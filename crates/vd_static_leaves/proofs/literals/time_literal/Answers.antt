@@ -4,7 +4,7 @@ use Rattle.vd_meaning.specs.Facets.{nth}
 use Rattle.vd_meaning.specs.Literals.{physical}
 use Rattle.vd_meaning.specs.Names.{unless_stopped}
 use Rattle.vd_static_entries.specs.Entries.{IsFound}
-use Rattle.vd_static_leaves.proofs.LeafLemmas.{stopped_known}
+use Rattle.vd_static_parts.proofs.StaticLemmas.{unless_found}
 use Rattle.vd_static_leaves.proofs.literals.time_literal.Goals as goal
 
 pub returns-clause-node : goal.returns-clause-node
@@ -18,5 +18,5 @@ returns-clause-node c = λ g e ms ground are.
     (subst (λ (d : List ℕ). IsFound x (physical d c.text_of-2.result.now)) (c.text_of.ensures store e ms are) c.in_ok-value.ensures) in
     let v = physical digits unit in
     c.expression.ensures.node store e ms (λ _ _. v) (λ _. unless_stopped v always)
-    (stopped_known x v c.is_some.result c.always.result c.unless_stopped-known.result always found c.is_some.ensures c.always.ensures c.unless_stopped-known.ensures)
+    (unless_found x v c.is_some.result c.always.result c.unless_stopped-known.result always (λ local. found) c.is_some.ensures c.always.ensures c.unless_stopped-known.ensures)
     (λ local given. found)

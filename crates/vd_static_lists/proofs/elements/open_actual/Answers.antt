@@ -1,5 +1,5 @@
 use Rattle.vd_meaning.specs.Facets.{of_node}
-use Rattle.vd_static_lists.proofs.ElementLemmas.{opened}
+use Rattle.vd_static_parts.proofs.NodeLemmas.{opened}
 use Rattle.vd_static_lists.proofs.elements.open_actual.Goals as goal
 
 pub returns-clause-node : goal.returns-clause-node

@@ -1,7 +1,6 @@
-use Rattle.std.proofs.Common.{◌≡◌, ◌&&◌, ap, subst, sym, true, ◌∙◌}
+use Rattle.std.proofs.Common.{◌≡◌, ap, subst, sym, true, ◌∙◌}
 use Rattle.vd_environments.specs.Environments.{both}
 use Rattle.vd_environments.specs.Got.{is_got}
-use Rattle.vd_indicated.specs.Indicated.{static_of}
 use Rattle.vd_meaning.specs.Facets.{arguments, known_of}
 use Rattle.vd_meaning.specs.Meanings.{operator}
 use Rattle.vd_meaning.specs.Names.{call_known, calls_known, unless_stopped}
@@ -9,8 +8,9 @@ use Rattle.vd_meaning.specs.Operators.{function_of}
 use Rattle.vd_meaning.specs.Tables.{followed}
 use Rattle.vd_static_entries.specs.Entries.{IsFound, table_of}
 use Rattle.vd_static_entries.specs.Nodes.{IsNode}
-use Rattle.vd_static_lists.proofs.OperatorLemmas.{not_local, unless_found, unless_late}
+use Rattle.vd_static_lists.proofs.OperatorLemmas.{unless_late}
 use Rattle.vd_static_names.proofs.StopLemmas.{left_true, right_true}
+use Rattle.vd_static_parts.proofs.StaticLemmas.{not_local, unless_found}
 use Rattle.vd_static_values.specs.Operands.{AreOperands}
 use Rattle.vd_static_lists.proofs.expressions.operator.Goals as goal
 
@@ -45,9 +45,8 @@ returns-clause-node c = λ e ms seen are.
     (c.in_ok-operands.ensures store e ms are (right_true (calls_known t d e).is_local (known_of ms e).is_local local)))
     (left_true (calls_known t d e).is_local (known_of ms e).is_local local) in
     let known =
-    ap static_of c.unless_stopped-known.ensures
-    ∙ ap (λ b. static_of (record { is_local = k.is_local && b; is_global = k.is_global })) c.is_some.ensures
-    ∙ unless_found k (call_known t d (known_of ms e) e) value (function_of t d e (arguments ms e)) sort found in
+    unless_found value (function_of t d e (arguments ms e)) c.is_some.result k c.unless_stopped-known.result (call_known t d (known_of ms e) e) found c.is_some.ensures sort
+    c.unless_stopped-known.ensures in
     subst (λ m. IsNode store e c.expression-2.result (operator t m c.args.node c.args.text.now ms)) same
     (c.expression-2.ensures.node store e ms (λ _ f. function_of t d f (arguments ms f))
     (λ f. unless_stopped (function_of t d f (arguments ms f)) (call_known t d (known_of ms f) f)) known

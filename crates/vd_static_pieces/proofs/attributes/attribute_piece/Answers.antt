@@ -8,4 +8,4 @@ returns-clause-node c = λ g e ms is nodes.
     let store = g.subtypes.now in
     let mark = c.args.node.mark in
     c.piece.ensures.node store e ms (attributed (attribute_named (nth 0 ms).text) mark)
-    (λ p. ap (λ name. attributed (attribute_named name) mark p) (sym (c.first_text.ensures store e ms nodes)))
+    (λ p. ap (λ name. attributed (attribute_named name) mark p) (sym (c.text_of.ensures store e ms nodes)))

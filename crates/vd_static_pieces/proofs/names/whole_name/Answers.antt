@@ -4,7 +4,8 @@ use Rattle.vd_meaning.specs.Kinds
 use Rattle.vd_meaning.specs.Meanings.{named_by}
 use Rattle.vd_static_entries.specs.Nodes.{AreNodes}
 use Rattle.vd_static_entries.specs.declared.nodes.Node.{Node}
-use Rattle.vd_static_pieces.proofs.NameLemmas.{made_by, nodes_behind}
+use Rattle.vd_static_parts.proofs.MadeLemmas.{made_by}
+use Rattle.vd_static_pieces.proofs.NameLemmas.{nodes_behind}
 use Rattle.vd_static_pieces.proofs.names.whole_name.Goals as goal
 
 pub returns-clause-node : goal.returns-clause-node

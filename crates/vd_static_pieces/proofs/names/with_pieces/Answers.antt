@@ -1,7 +1,8 @@
 use Rattle.std.proofs.Common.{◌+◌, arith, drop}
 use Rattle.std.proofs.lemmas.List.{drop_all}
 use Rattle.vd_meaning.specs.Meanings.{named_by}
-use Rattle.vd_static_pieces.proofs.NameLemmas.{comes_at_last, comes_further, next_left}
+use Rattle.vd_static_parts.proofs.KnownLemmas.{drop_here}
+use Rattle.vd_static_pieces.proofs.NameLemmas.{comes_at_last, comes_further}
 use Rattle.vd_static_pieces.proofs.names.with_pieces.Goals as goal
 
 pub loop-node-preserved : goal.loop-node-preserved
@@ -14,7 +15,7 @@ loop-node-preserved c =
       within = c.in_ok-name.ensures.within;
       fields = c.apply.ensures.fields;
       named = λ e p ms ground is nodes.
-          comes_further store e c.loop-node.name c.in_ok-name.name node (drop (i + 1) xs) (drop i xs) (named_by p ms) (next_left xs i node c.loop-node-test.true c.node-item.is)
+          comes_further store e c.loop-node.name c.in_ok-name.name node (drop (i + 1) xs) (drop i xs) (named_by p ms) (drop_here xs i node c.loop-node-test.true c.node-item.is)
           (λ q f name piece. c.in_ok-name.ensures.named e q f ground name piece)
           (c.loop-node.invariant.named e p ms ground is nodes);
     }

@@ -1,5 +1,5 @@
 use Rattle.vd_meaning.specs.Facets.{nth}
-use Rattle.vd_static_ranges.proofs.MarkLemmas.{opened}
+use Rattle.vd_static_parts.proofs.NodeLemmas.{opened}
 use Rattle.vd_static_ranges.proofs.marks.open_index.Goals as goal
 
 pub returns-clause-node : goal.returns-clause-node

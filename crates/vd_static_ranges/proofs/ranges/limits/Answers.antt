@@ -1,6 +1,6 @@
 use Rattle.vd_meaning.specs.Facets.{known_of, nth}
 use Rattle.vd_meaning.specs.Meanings.{limits}
-use Rattle.vd_static_ranges.proofs.RangeLemmas.{not_local}
+use Rattle.vd_static_parts.proofs.StaticLemmas.{not_local}
 use Rattle.vd_static_ranges.proofs.ranges.limits.Goals as goal
 
 pub returns-then-not-known-clause-node : goal.returns-then-not-known-clause-node

@@ -5,7 +5,7 @@ use Rattle.vd_meaning.specs.Facets.{from, nth}
 use Rattle.vd_meaning.specs.Meanings.{limits_of_mark}
 use Rattle.vd_meaning.specs.Names.{name_bounds}
 use Rattle.vd_static_names.proofs.StopLemmas.{left_true, right_true}
-use Rattle.vd_static_ranges.proofs.PartLemmas.{part_there}
+use Rattle.vd_static_parts.proofs.PartLemmas.{nth_here}
 use Rattle.vd_static_ranges.proofs.RangeLemmas.{known_missing}
 use Rattle.vd_static_ranges.proofs.ranges.limits_of_mark.Goals as goal
 
@@ -25,8 +25,8 @@ returns-clause-node c = λ e ms seen are.
     let parts = c.args.parts.now in
     let x = c.mark-item.result in
     let y = c.limits-item.result in
-    let mark = part_there store e 0 parts ms x are (slice_get_read parts (length parts) 0 x refl (omega arith) c.mark-item.is) in
-    let limits = part_there store e 1 parts ms y are (slice_get_read parts (length parts) 1 y refl (omega arith) c.limits-item.is) in
+    let mark = nth_here store e 0 parts ms x are (slice_get_read parts (length parts) 0 x refl (omega arith) c.mark-item.is) in
+    let limits = nth_here store e 1 parts ms y are (slice_get_read parts (length parts) 1 y refl (omega arith) c.limits-item.is) in
     let own = own_bounds ((nth 0 ms).name.make e) in
     let slices = (nth 0 ms).name.local_slices e in
     let bounds = name_bounds (nth 0 ms).name e in

@@ -1,19 +1,16 @@
-use Rattle.std.proofs.Common.{◌&&◌, Some, ap, refl, ◌∙◌}
+use Rattle.std.proofs.Common.{Some, refl}
 use Rattle.vd_environments.specs.Got.{is_got, senseless}
-use Rattle.vd_indicated.specs.Indicated.{static_of}
 use Rattle.vd_meaning.specs.Names.{unless_stopped}
 use Rattle.vd_static_entries.specs.declared.names.Ranging.TheVariants.{Range}
 use Rattle.vd_static_names.proofs.StopLemmas.{left_true}
-use Rattle.vd_static_ranges.proofs.RangeLemmas.{unless_found, with_range}
+use Rattle.vd_static_parts.proofs.StaticLemmas.{unless_found}
+use Rattle.vd_static_ranges.proofs.RangeLemmas.{with_range}
 use Rattle.vd_static_ranges.proofs.ranges.ranging.Goals as goal
 
 pub returns-clause-node : goal.returns-clause-node
 returns-clause-node c = λ subtypes e ms r kn same found.
-    let k = c.args.known in
     let known =
-    ap static_of c.unless_stopped-known.ensures
-    ∙ ap (λ b. static_of (record { is_local = k.is_local && b; is_global = k.is_global })) c.is_some.ensures
-    ∙ unless_found k (kn e) c.args.range (r e) same found in
+    unless_found c.args.range (r e) c.is_some.result c.args.known c.unless_stopped-known.result (kn e) found c.is_some.ensures same c.unless_stopped-known.ensures in
     let node = c.expression-sense.ensures.node subtypes e ms (λ _ _. senseless) (λ f. unless_stopped (r f) (kn f)) known (λ local given. refl) in
     record {
       sense =
