@@ -75,6 +75,12 @@ node_kind Kinds.AssignConcurrently = code.Silent
 -- and what is nothing but itself
 node_kind _ = code.Plain
 
+-- an operator, or what has no function of its own
+abbrev pub common : NodeKind → NodeKind
+common (code.Listing listing.Operator) = code.Listing listing.Operator
+common code.Silent = code.Silent
+common _ = code.Plain
+
 abbrev pub leaf_kind : Leaf → Kinds.Kind
 leaf_kind leaf.Word = Kinds.Word
 leaf_kind leaf.CharacterLiteral = Kinds.CharacterLiteral

@@ -2,7 +2,7 @@
 
 ghost use Rattle.std.specs.Prelude.{◌≡◌};
 ghost use Rattle.vd_meaning.specs.Kinds.{kind};
-ghost use Rattle.vd_static_expressions.specs.Kinds.{node_kind};
+ghost use Rattle.vd_static_expressions.specs.Kinds.{common, node_kind};
 
 use vd_forms::Form;
 
@@ -64,6 +64,37 @@ pub enum NodeKind {
     Piece(PieceKind),
 }
 
+/// The kind of a form of which nothing has a function of its own but operators.
+fn common_kind(form: Form) -> NodeKind
+    ensures { result ≡ common (node_kind (kind form)) }
+{
+    let operator = NodeKind::Listing(Listing::Operator);
+    match form {
+        Form::Condition | Form::Nand | Form::Nor | Form::And | Form::Or | Form::Xor => operator,
+        Form::Xnor | Form::Equal | Form::Unequal | Form::Less | Form::AtMost => operator,
+        Form::Greater | Form::AtLeast | Form::MatchEqual | Form::MatchUnequal => operator,
+        Form::MatchLess | Form::MatchAtMost | Form::MatchGreater => operator,
+        Form::MatchAtLeast | Form::ShiftLeftLogical | Form::ShiftRightLogical => operator,
+        Form::ShiftLeftArithmetic | Form::ShiftRightArithmetic | Form::RotateLeft => operator,
+        Form::RotateRight | Form::Identity | Form::Negation | Form::Add => operator,
+        Form::Subtract | Form::Concatenate | Form::Multiply | Form::Divide => operator,
+        Form::Modulo | Form::Remainder | Form::Absolute | Form::Not => operator,
+        Form::AndReduction | Form::OrReduction | Form::XorReduction => operator,
+        Form::XnorReduction | Form::NandReduction | Form::NorReduction => operator,
+        Form::Power => operator,
+        Form::TypeDeclaration | Form::SubtypeDeclaration => NodeKind::Silent,
+        Form::ConstantDeclaration | Form::VariableDeclaration => NodeKind::Silent,
+        Form::FunctionBody | Form::FunctionInstantiation | Form::Statements => NodeKind::Silent,
+        Form::ElseBranch | Form::LabelledStatement | Form::SignalAssignment => NodeKind::Silent,
+        Form::VariableAssignment | Form::SelectedSignalAssignment => NodeKind::Silent,
+        Form::SelectedVariableAssignment | Form::IfStatement => NodeKind::Silent,
+        Form::CaseStatement | Form::WaitStatement | Form::AssertStatement => NodeKind::Silent,
+        Form::ReportStatement | Form::ReturnStatement | Form::ExitStatement => NodeKind::Silent,
+        Form::NextStatement | Form::ConcurrentAssignment => NodeKind::Silent,
+        _ => NodeKind::Plain,
+    }
+}
+
 /// The kind of a form.
 pub(crate) fn kind_of(form: Form) -> NodeKind
     ensures { result ≡ node_kind (kind form) }
@@ -81,41 +112,6 @@ pub(crate) fn kind_of(form: Form) -> NodeKind
         Form::Attribute => NodeKind::Piece(PieceKind::Attribute),
         Form::RangeAttribute => NodeKind::Piece(PieceKind::Range),
         Form::Qualification => NodeKind::Piece(PieceKind::Qualification),
-        Form::Condition | Form::Nand | Form::Nor | Form::And | Form::Or | Form::Xor =>
-            NodeKind::Listing(Listing::Operator),
-        Form::Xnor | Form::Equal | Form::Unequal | Form::Less | Form::AtMost | Form::Greater =>
-            NodeKind::Listing(Listing::Operator),
-        Form::AtLeast
-        | Form::MatchEqual
-        | Form::MatchUnequal
-        | Form::MatchLess
-        | Form::MatchAtMost
-        | Form::MatchGreater => NodeKind::Listing(Listing::Operator),
-        Form::MatchAtLeast
-        | Form::ShiftLeftLogical
-        | Form::ShiftRightLogical
-        | Form::ShiftLeftArithmetic
-        | Form::ShiftRightArithmetic
-        | Form::RotateLeft => NodeKind::Listing(Listing::Operator),
-        Form::RotateRight
-        | Form::Identity
-        | Form::Negation
-        | Form::Add
-        | Form::Subtract
-        | Form::Concatenate => NodeKind::Listing(Listing::Operator),
-        Form::Multiply
-        | Form::Divide
-        | Form::Modulo
-        | Form::Remainder
-        | Form::Absolute
-        | Form::Not => NodeKind::Listing(Listing::Operator),
-        Form::AndReduction
-        | Form::OrReduction
-        | Form::XorReduction
-        | Form::XnorReduction
-        | Form::NandReduction
-        | Form::NorReduction => NodeKind::Listing(Listing::Operator),
-        Form::Power => NodeKind::Listing(Listing::Operator),
         Form::Aggregate => NodeKind::Listing(Listing::Brackets),
         Form::Association => NodeKind::Listing(Listing::Association),
         Form::OthersAssociation => NodeKind::Listing(Listing::OthersAssociation),
@@ -128,28 +124,6 @@ pub(crate) fn kind_of(form: Form) -> NodeKind
         Form::UnconstrainedIndex => NodeKind::Range(RangeKind::OpenIndex),
         Form::SelectedName => NodeKind::Range(RangeKind::MarkName),
         Form::IndexConstraint | Form::RangeConstraint => NodeKind::Range(RangeKind::Constraint),
-        Form::TypeDeclaration
-        | Form::SubtypeDeclaration
-        | Form::ConstantDeclaration
-        | Form::VariableDeclaration
-        | Form::FunctionBody
-        | Form::FunctionInstantiation => NodeKind::Silent,
-        Form::Statements
-        | Form::ElseBranch
-        | Form::LabelledStatement
-        | Form::SignalAssignment
-        | Form::VariableAssignment
-        | Form::SelectedSignalAssignment => NodeKind::Silent,
-        Form::SelectedVariableAssignment
-        | Form::IfStatement
-        | Form::CaseStatement
-        | Form::WaitStatement
-        | Form::AssertStatement
-        | Form::ReportStatement => NodeKind::Silent,
-        Form::ReturnStatement
-        | Form::ExitStatement
-        | Form::NextStatement
-        | Form::ConcurrentAssignment => NodeKind::Silent,
-        _ => NodeKind::Plain,
+        _ => common_kind(form),
     }
 }
