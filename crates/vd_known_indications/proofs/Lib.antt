@@ -1,2 +1,2 @@
 mod IndicationLemmas
-mod PlaceLemmas
+pub mod PlaceLemmas

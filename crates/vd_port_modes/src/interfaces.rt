@@ -183,6 +183,13 @@ impl<'t> Interfaces<'t> {
         })
     }
 
+    /// The revision of the design.
+    pub fn revision(&self) -> Revision
+        ensures { result ≡ self.now.revision }
+    {
+        self.revision
+    }
+
     /// The declarations of the design.
     pub fn declarations(&self) -> &'t [Declaration]
         ensures { result.now ≡ self.now.tree.declarations }
