@@ -1,0 +1,6 @@
+//! Where arrays need bounds.
+#![tactic(auto)]
+
+pub mod bounds;
+
+pub use bounds::bound_refusals;

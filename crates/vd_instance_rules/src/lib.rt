@@ -1,0 +1,6 @@
+//! Port maps.
+#![tactic(auto)]
+
+pub mod instances;
+
+pub use instances::instance_refusals;

@@ -1,0 +1,6 @@
+//! What trees declare for the text behind them, one after the other, in memory. (IEEE 1076, declarations; design units)
+#![tactic(auto)]
+
+pub mod units;
+
+pub use units::{unit_declared, units_declared};

@@ -1,0 +1,6 @@
+//! What must be known in elaboration, and the names of sensitivity lists.
+#![tactic(auto)]
+
+pub mod statics;
+
+pub use statics::static_refusals;

@@ -1,0 +1,6 @@
+//! The actuals of generics that are types.
+#![tactic(auto)]
+
+pub mod types;
+
+pub use types::type_refusals;
