@@ -1,5 +1,5 @@
 -- Elements that are passed, one after the other.
-use Rattle.std.proofs.Common.{◌++◌, ◌+◌, ◌≤◌, ◌≡◌, ◌∙◌, ◌∷◌, Bool, List, [], ap, ap₂, append_assoc, drop, length, map, refl, slice_get, sym, suc, zero, ℕ, arith}
+use Rattle.std.proofs.Common.{◌++◌, ◌+◌, ◌≤◌, ◌≡◌, ◌∙◌, ◌∷◌, Bool, List, [], ap, ap₂, append_assoc, drop, length, refl, slice_get, sym, suc, zero, ℕ, arith}
 use Rattle.std.proofs.lemmas.List.{append-nil, map-append}
 use Rattle.vd_bytes.specs.declared.places.Place.{Place}
 use Rattle.vd_forest.specs.Forest.{Forest, more, nothing}

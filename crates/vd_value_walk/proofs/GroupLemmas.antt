@@ -1,5 +1,5 @@
 -- The first refusals of six groups of rules. No name has a dash, so that a caller can name each in `#[tactic(auto, using(..))]`.
-use Rattle.std.proofs.Common.{◌++◌, ◌≡◌, List, ap, ap₂, sym, ◌∙◌, Option}
+use Rattle.std.proofs.Common.{◌++◌, ◌≡◌, List, ap₂, sym, ◌∙◌, Option}
 use Rattle.vd_bytes.specs.declared.answers.Refused.{Refused}
 use Rattle.vd_rule_groups.proofs.FirstLemmas.{first_of_both}
 use Rattle.vd_rule_groups.specs.Groups.{firsts_of, is_of_rules, joined_firsts}
@@ -11,7 +11,7 @@ firsts_of_both rs qs =
     let both : Option Refused → Option Refused → Firsts = λ a b. record { of_names = a; of_rules = b } in
     ap₂ both (first_of_both is_of_names rs qs) (first_of_both is_of_rules rs qs)
 
-joined_with : (a b : Firsts) (rs qs : List Refused) → a ≡ firsts_of rs → b ≡ firsts_of qs → joined_firsts a b ≡ firsts_of (rs ++ qs)
+pub joined_with : (a b : Firsts) (rs qs : List Refused) → a ≡ firsts_of rs → b ≡ firsts_of qs → joined_firsts a b ≡ firsts_of (rs ++ qs)
 joined_with a b rs qs first second = ap₂ joined_firsts first second ∙ sym (firsts_of_both rs qs)
 
 pub six_together : (a b c d e f : Firsts) (as' bs cs ds es fs : List Refused)

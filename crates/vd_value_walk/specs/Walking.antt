@@ -1,5 +1,5 @@
 -- One walk for the rules that hang on what is known of declarations.
-use Rattle.std.specs.Prelude.{◌≡◌, ◌++◌, ◌∷◌, List, [], map, reverse}
+use Rattle.std.specs.Prelude.{◌≡◌, ◌++◌, ◌∷◌, List, map, reverse}
 use Rattle.vd_bytes.specs.declared.answers.Refused.{Refused}
 use Rattle.vd_following.specs.Positions.{Position, Tree, judged, state_at}
 use Rattle.vd_forest.specs.Forest.{Forest}

@@ -23,7 +23,6 @@ use vd_static_rules::static_refusals;
 use vd_type_rules::type_refusals;
 
 /// The first refusals of a node.
-#[tactic(auto, using(crate::proofs::GroupLemmas::six_together))]
 pub(crate) fn refusals(
     design: &mut KnownDesign<'_, '_>,
     interfaces: &Interfaces<'_>,
@@ -41,6 +40,9 @@ pub(crate) fn refusals(
     let bounds = bound_refusals(design, interfaces, alloc, around, node)?;
     let instances = instance_refusals(design, interfaces, alloc, around, node)?;
     let types = type_refusals(design, interfaces, alloc, around, node)?;
-    let later = together(bounds, together(instances, types));
-    Ok(together(choices, together(aggregates, together(statics, later))))
+    let last = together(instances, types);
+    let later = together(bounds, last);
+    let further = together(statics, later);
+    let others = together(aggregates, further);
+    Ok(together(choices, others))
 }

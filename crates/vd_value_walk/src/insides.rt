@@ -13,7 +13,7 @@ ghost use Rattle.vd_indicated.specs.Indicated.{static_of};
 
 use std::alloc::{AllocError, Global};
 use vd_bytes::Place;
-use vd_declarations::{Class, DeclId, TypeId};
+use vd_declarations::{Class, DeclId};
 use vd_facets::{declaration_of, is_present, number_made};
 use vd_forest::Cursor;
 use vd_forms::Form;
@@ -24,12 +24,13 @@ use vd_known_places::node;
 use vd_operations::tables::class_of;
 use vd_port_modes::Interfaces;
 use vd_resolved::Resolved;
+use vd_static_entries::Sense;
 
-/// The declaration of a type, where there is one.
-fn declared_type(mark: Option<TypeId>) -> Option<DeclId>
-    ensures { result ≡ mark }
+/// The declaration of the type of an expression.
+fn type_of(sense: &Sense<'_>) -> Option<DeclId>
+    ensures { result ≡ sense.now.mark }
 {
-    match mark {
+    match sense.mark {
         Some(mark) => Some(DeclId::of(mark.number())),
         None => None,
     }
@@ -47,7 +48,7 @@ fn type_of_first(
     ensures knows { (d : Design) (ks : List Known) → Knows d design.old ks → Knows d design.new ks }
 {
     let first = node(design, alloc, tree)?;
-    Ok(declared_type(first.sense.mark))
+    Ok(type_of(&first.sense))
 }
 
 /// The parameter of a loop or a generate, which is so static and has the type of its range.
@@ -70,10 +71,7 @@ fn parameter_known(
 }
 
 /// Inside of a function whose result has the subtype of this mark.
-fn returning_known(
-    design: &mut KnownDesign<'_, '_>,
-    mark: Option<DeclId>,
-) -> Result<(), AllocError>
+fn returning_known(design: &mut KnownDesign<'_, '_>, mark: Option<DeclId>) -> Result<(), AllocError>
     requires ready { IsReady design.old }
     ensures knows { (d : Design) (k : Known) (ks : List Known) → Knows d design.old (k ∷ ks)
         → OnOk result (Knows d design.new (returning mark (known_inside k) ∷ ks)) }

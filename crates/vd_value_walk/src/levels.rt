@@ -1,13 +1,12 @@
 //! What a place is to the node above it, and what surrounds it.
 
-ghost use Rattle.std.specs.Prelude.{◌≡◌};
+ghost use Rattle.std.specs.Prelude.{◌≡◌, ◌||◌, drop};
 ghost use Rattle.vd_known_places.specs.Places.{IsAround};
-ghost use Rattle.vd_standings.specs.Standing.{standing_of};
+ghost use Rattle.vd_standings.specs.Standing.{standing_of, standings_in};
 ghost use Rattle.vd_value_rules.specs.Designs.{Design};
-ghost use Rattle.vd_value_rules.specs.Standings.{State, standing as standing_in, state_along};
+ghost use Rattle.vd_value_rules.specs.Standings.{State, further_standings, standing as standing_in};
 ghost use Rattle.vd_value_walk.specs.Levels.{IsBehind, IsLevel};
 
-use std::mem;
 use vd_bytes::Place;
 use vd_known_places::Surroundings;
 use vd_standings::Standing;
@@ -37,10 +36,17 @@ pub(crate) fn standing(level: &Level) -> Standing
 }
 
 /// Whether a tree itself stands in text that is written out again elsewhere.
-fn is_copied_itself(standing: Standing) -> bool
-    ensures { (d : Design) → result ≡ Rattle.vd_value_rules.specs.Standings.is_copied_itself (standing_of d standing) }
+fn is_copied_itself(standing: &Standing) -> bool
+    ensures { (d : Design) → result ≡ Rattle.vd_value_rules.specs.Standings.is_copied_itself (standing_of d standing.now) }
 {
     matches!(standing, Standing::Copied { .. })
+}
+
+/// Whether one of two things holds.
+pub(crate) fn either(one: bool, other: bool) -> bool
+    ensures { result ≡ (one || other) }
+{
+    one || other
 }
 
 /// What surrounds the tree at the place.
@@ -48,18 +54,25 @@ pub(crate) fn surroundings(level: &Level) -> Surroundings
     ensures { (d : Design) (s : State) → IsLevel d level.now s → IsAround result s }
 {
     let standing = standing(level);
+    let is_copied = either(level.is_copied, is_copied_itself(&standing));
     Surroundings {
         is_bounded: is_bounded(standing),
-        is_copied: level.is_copied || is_copied_itself(standing),
+        is_copied,
         label: level.label,
     }
 }
 
-/// The place behind the tree at a place.
+/// The number of the tree behind one with a number. The last one stands for all that follow.
+fn next_tree(coming: &[Standing], at: usize) -> usize
+    ensures { (d : Design) → standings_in d (drop result coming.now) ≡ further_standings (standings_in d (drop at coming.now)) }
+{
+    let left = coming.len().saturating_sub(at);
+    if left > 1 { at + 1 } else { at }
+}
+
+/// Goes behind the tree at a place.
 pub(crate) fn go_on(level: &mut Level)
     ensures { (d : Design) (s : State) → IsLevel d level.old s → IsBehind d level.new s }
 {
-    if level.at + 1 < level.coming.len() {
-        level.at += 1;
-    }
+    level.at = next_tree(&level.coming, level.at);
 }

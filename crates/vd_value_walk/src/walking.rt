@@ -16,7 +16,7 @@ ghost use Rattle.vd_value_walk.specs.Walking.{Follows, KnowsEnd, asked, broken_h
 
 use crate::groups::refusals;
 use crate::insides::{are_parts_copied, known_in_parts, label_of_parts};
-use crate::levels::{Level, go_on, standing, surroundings};
+use crate::levels::{Level, either, go_on, standing, surroundings};
 use std::alloc::{AllocError, Global};
 use std::mem;
 use vd_following::{Following, follow};
@@ -53,7 +53,7 @@ fn first_part(
     requires ready { IsReady design.old }
     ensures level { (s : State) (ks : List Known) → Knows (design_in interfaces.now) design.old (s.known ∷ ks) → IsLevel (design_in interfaces.now) here.now s
         → IfOk result (λ x. IsLevel (design_in interfaces.now) x
-          (state_down (design_in interfaces.now) s node.now.form node.now.text.now node.now.place node.now.parts)) }
+        (state_down (design_in interfaces.now) s node.now.form node.now.text.now node.now.place node.now.parts)) }
     ensures knows { (d : Design) (ks : List Known) → Knows d design.old ks → OnOk result (Knows d design.new ks) }
 {
     let own = standing(here);
@@ -63,7 +63,10 @@ fn first_part(
         coming,
         at: 0,
         label: label_of_parts(node.form.form, node.place),
-        is_copied: around.is_copied || are_parts_copied(interfaces, &node.form, &node.parts),
+        is_copied: either(
+            around.is_copied,
+            are_parts_copied(interfaces, &node.form, &node.parts),
+        ),
     })
 }
 
@@ -170,11 +173,7 @@ impl<'a, 'i, 't> Following<'a, Resolved> for Walk<'a, 'i, 't> {
 }
 
 /// The least refusals of the rules on choices, aggregates, static expressions, bounds, port maps, and actuals that are types.
-pub fn value_refusals(
-    alloc: Global,
-    revision: Revision,
-    tree: &Tree,
-) -> Result<Firsts, AllocError>
+pub fn value_refusals(alloc: Global, revision: Revision, tree: &Tree) -> Result<Firsts, AllocError>
     ensures { IfOk result (λ found. found ≡ firsts_by asked revision tree.now) }
 {
     let interfaces = Interfaces::of(alloc, revision, tree)?;

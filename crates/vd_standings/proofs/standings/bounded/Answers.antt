@@ -1,9 +1,8 @@
-use Rattle.std.proofs.Common.{◌≡◌, ◌∙◌, Bool, ap, if◌then◌else◌, subst, sym, true}
+use Rattle.std.proofs.Common.{◌≡◌, ◌∙◌, ap, if◌then◌else◌, subst, sym, true}
 use Rattle.std.specs.Prelude.{IfOk}
 use Rattle.vd_meaning.specs.Meanings.{meanings}
-use Rattle.vd_meaning.specs.Names.{number_or}
 use Rattle.vd_standings.specs.Rows.{bounded_by, one_evaluated}
-use Rattle.vd_standings.specs.Standing.{standing_of, standings_in}
+use Rattle.vd_standings.specs.Standing.{standings_in}
 use Rattle.vd_value_rules.specs.Standings.{is_bounded, is_bounded_object, is_one_element}
 use Rattle.vd_standings.proofs.standings.bounded.Goals as goal
 

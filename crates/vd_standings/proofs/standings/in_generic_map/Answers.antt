@@ -1,4 +1,4 @@
-use Rattle.std.proofs.Common.{◌≡◌, List, subst, sym, true, ℕ, ◌&&◌}
+use Rattle.std.proofs.Common.{◌≡◌, subst, sym}
 use Rattle.std.specs.Prelude.{IfOk}
 use Rattle.vd_meaning.specs.Meanings.{meanings}
 use Rattle.vd_port_modes.specs.Source.{design_in}

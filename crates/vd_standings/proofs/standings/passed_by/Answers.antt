@@ -1,5 +1,5 @@
 use Rattle.std.proofs.Common.{◌≡◌, subst, sym}
-use Rattle.std.specs.Prelude.{IfOk, Ok}
+use Rattle.std.specs.Prelude.{IfOk}
 use Rattle.vd_meaning.specs.Meanings.{meanings}
 use Rattle.vd_port_modes.specs.Source.{design_in}
 use Rattle.vd_standings.specs.Rows.{passed_by}

@@ -1,4 +1,4 @@
-use Rattle.std.proofs.Common.{◌&&◌, ◌∙◌, ◌≡◌, Bool, List, ap, ap₂, not, subst, sym, ℕ}
+use Rattle.std.proofs.Common.{◌&&◌, ◌∙◌, ◌≡◌, ap, ap₂, not, subst}
 use Rattle.std.specs.Prelude.{IfOk, slice_index_or}
 use Rattle.vd_meaning.specs.Meanings.{meanings}
 use Rattle.vd_meaning.specs.Tables.{is_predefined, no_declaration, table}

@@ -3,7 +3,7 @@ use Rattle.std.specs.Prelude.{IfOk}
 use Rattle.vd_port_modes.specs.Source.{design_in}
 use Rattle.vd_standings.proofs.RowLemmas.{found_is}
 use Rattle.vd_standings.specs.Rows.{bounded_by, fixed, mapped, passed_by}
-use Rattle.vd_standings.specs.Standing.{standing_of, standings_in}
+use Rattle.vd_standings.specs.Standing.{standings_in}
 use Rattle.vd_standings.specs.declared.rows.Sort.TheVariants.{Bounded, Fixed, Mapped, Passed}
 use Rattle.vd_value_rules.specs.Standings.{standing, standings}
 use Rattle.vd_standings.proofs.standings.standings_of.Goals as goal
