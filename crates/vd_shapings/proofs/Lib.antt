@@ -1,0 +1,4 @@
+pub mod MeasuredLemmas
+pub mod OperandLemmas
+pub mod OverLemmas
+pub mod SubtypeLemmas
