@@ -1,5 +1,5 @@
 -- Nodes that are what a part of theirs is.
-use Rattle.std.proofs.Common.{◌≡◌, Bool, List, None, Option, Some, ap, false, is_some, refl, sym, true, ◌∙◌, ℕ}
+use Rattle.std.proofs.Common.{◌≡◌, Bool, List, None, Option, ap, false, is_some, refl, sym, true, ◌∙◌, ℕ}
 use Rattle.vd_bytes.specs.declared.places.Place.{Place}
 use Rattle.vd_forest.specs.Forest.{Forest, form_of, more, nothing}
 use Rattle.vd_meaning.specs.Brackets.{is_positional}

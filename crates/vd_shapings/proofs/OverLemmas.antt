@@ -1,5 +1,5 @@
 -- What is found where something is seen.
-use Rattle.std.proofs.Common.{◌≡◌, ◌≢◌, ◌∷◌, refl, Bool, List, None, Option, Some, false, if◌then◌else◌, subst, sym, true, ℕ}
+use Rattle.std.proofs.Common.{◌&&◌, ◌∙◌, ap, is_some, not, ◌≡◌, ◌≢◌, ◌∷◌, refl, Bool, List, Option, Some, false, if◌then◌else◌, subst, sym, true, ℕ}
 use Rattle.vd_environments.specs.Environments.{Env, Indicated}
 use Rattle.vd_facets.specs.Roles.{read_role}
 use Rattle.vd_facets.specs.declared.roles.Role.{Role as WrittenRole}
@@ -8,17 +8,20 @@ use Rattle.vd_forest.specs.Forest.{Forest}
 use Rattle.vd_indicated.specs.declared.forms.IndicatedForm.{IndicatedForm}
 use Rattle.vd_indicating.specs.Made.{Indicates}
 use Rattle.vd_known_tables.specs.Known.{AreKnown}
-use Rattle.vd_meaning.specs.Tables.{Table, is_predefined}
+use Rattle.vd_meaning.specs.Kinds.{kind}
+use Rattle.vd_meaning.specs.Names.{number_or}
+use Rattle.vd_meaning.specs.Tables.{Table, followed, is_predefined}
 use Rattle.vd_resolved.specs.declared.node.Resolved.{Resolved}
 use Rattle.vd_shapings.specs.Extents.{CanSee, IsExtent, Sees}
 use Rattle.vd_shapings.specs.declared.extents.Extent.{Extent}
 use Rattle.vd_shapings.specs.declared.over.Over.{Over}
 use Rattle.vd_static_entries.specs.Entries.{table_of}
+use Rattle.vd_static_entries.specs.declared.entries.Ground.{Ground}
 use Rattle.vd_static_names.specs.Known.{HasSubtypes}
 use Rattle.vd_value_rules.specs.Declaring.{result_in}
 use Rattle.vd_value_rules.specs.Designs.{Design}
 use Rattle.vd_value_rules.specs.Knowledge.{Known, at_mark, indicated_of}
-use Rattle.vd_value_rules.specs.Lengths.{Shaped, first_shaped, selection_shaped, shaped_by}
+use Rattle.vd_value_rules.specs.Lengths.{Shaped, calls_written, first_shaped, is_operator, selection_shaped, shaped_by}
 
 -- what a table has for a declaration
 abbrev pub Chooses : Over → ℕ → ℕ → Type 0
@@ -64,3 +67,12 @@ module _ (store : List (Forest IndicatedForm)) (x : Extent) (d : Design) (k : Kn
   selected_other written.Mark other is = is
   selected_other written.Element other is = absurd (other refl)
   selected_other written.Nothing other is = is
+
+-- whether an operator is one that is written
+module _ (d : Design) (g : Ground) (n : Resolved) (a b c : Bool) (f : ℕ) (operator : a ≡ is_operator (kind n.form)) (found : b ≡ is_some n.declaration)
+    (function : f ≡ followed (table_of g) (number_or n.declaration)) (given : c ≡ is_predefined (table_of g) f) (same : d.table ≡ table_of g) where
+  pub written_is : a ≡ true → b ≡ true → not c ≡ calls_written d n
+  written_is is there =
+      let own = not (is_predefined d.table (followed d.table (number_or n.declaration))) in
+      ap not (given ∙ ap (is_predefined (table_of g)) function ∙ ap (λ t. is_predefined t (followed t (number_or n.declaration))) (sym same))
+      ∙ subst (λ v. own ≡ (v && (is_some n.declaration && own))) (sym is ∙ operator) (subst (λ v. own ≡ (true && (v && own))) (sym there ∙ found) refl)

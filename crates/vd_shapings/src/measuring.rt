@@ -1,12 +1,14 @@
 //! Trees, from the leaves on.
 
-ghost use Rattle.std.specs.Prelude.{◌≡◌, IfOk};
+ghost use Rattle.std.specs.Prelude.{◌≡◌, IfOk, List};
 ghost use Rattle.std.specs.List.{All};
 ghost use Rattle.vd_indicated_fields.specs.Jumps.{AreJumps};
-ghost use Rattle.vd_shapings.specs.Extents.{AreTreesMeasured, CanSee, IsMeasuredAs, IsMeasuredHere, IsMeasuredWithin, IsTreeMeasured};
+ghost use Rattle.vd_meaning.specs.Meanings.{meanings};
+ghost use Rattle.vd_meaning.specs.Tables.{Table};
+ghost use Rattle.vd_shapings.specs.Extents.{AreMeasured, AreTreesMeasured, CanSee, IsMeasuredAs, IsMeasuredHere, IsMeasuredWithin, IsTreeMeasured};
 ghost use Rattle.vd_shapings.specs.Kinds.{read_kind};
 ghost use Rattle.vd_value_rules.specs.Designs.{Design};
-ghost use Rattle.vd_value_rules.specs.Lengths.{AnAttribute, AName, Joining, OfOperand, SomeArguments, SomeBrackets, calls_written as written_is_called};
+ghost use Rattle.vd_value_rules.specs.Lengths.{AnAttribute, AName, Joining, OfOperand, Shaping, SomeArguments, SomeBrackets, array_operand, calls_written as written_is_called};
 ghost use Rattle.vd_static_entries.specs.Entries.{table_of};
 
 use crate::arguments::{arguments, attribute};
@@ -19,8 +21,9 @@ use crate::over::Over;
 use crate::pieces::{Measured, alone, no_measure, piece_alone};
 use std::alloc::{AllocError, Global};
 use std::mem;
-use vd_forest::{Cursor, Opened};
+use vd_forest::{Cursor, Opened, Store};
 use vd_from_leaves::{FromLeaves, from_leaves};
+use vd_indicated::IndicatedForm;
 use vd_indicated_fields::FieldTable;
 use vd_operations::tables::{followed, is_predefined};
 use vd_resolved::Resolved;
@@ -32,40 +35,47 @@ fn joining(
     parts: &[Measured],
 ) -> Result<Measured, AllocError>
     requires sees { CanSee over.now }
-    requires parts_in { All (IsMeasuredWithin over.now.ground.subtypes.now) parts.now }
     ensures within { IfOk result (IsMeasuredWithin over.now.ground.subtypes.now) }
     ensures is { IfOk result (IsMeasuredAs Joining over.now tree.now.form tree.now.text.now tree.now.parts parts.now) }
 {
     let subtypes = over.ground.subtypes;
-    let mark = tree.form.mark;
-    let left = joined(mark, mark_of(&tree.parts), length_of(subtypes, parts, 0));
-    let right = joined(
-        mark,
-        mark_of(&tree.parts.skip(1)),
-        length_of(subtypes, parts, 1),
-    );
+    let behind = tree.parts.skip(1);
+    let first_mark = mark_of(&tree.parts);
+    let second_mark = mark_of(&behind);
+    let first = length_of(subtypes, parts, 0);
+    let second = length_of(subtypes, parts, 1);
+    let left = joined(tree.form.mark, first_mark, first);
+    let right = joined(tree.form.mark, second_mark, second);
     let length = sum(left, right)?;
-    Ok(alone(subtypes, typed(over, mark, length)))
+    Ok(alone(subtypes, typed(over, tree.form.mark, length)))
+}
+
+/// The length of the array operand of a logical operator, `not` or a shift.
+fn operand_length(
+    subtypes: &Store<IndicatedForm>,
+    tree: &Opened<'_, Resolved>,
+    parts: &[Measured],
+) -> Option<u128>
+    ensures { (t : Table) (ss : List Shaping) → AreMeasured subtypes.now parts.now ss
+        → array_operand tree.now.form (meanings t tree.now.parts) ss ≡ result }
+{
+    let mark = mark_of(&tree.parts);
+    if same_type(mark, tree.form.mark) {
+        length_of(subtypes, parts, 0)
+    } else {
+        length_of(subtypes, parts, 1)
+    }
 }
 
 /// A logical operator, `not` or a shift.
 fn of_operand(over: &Over<'_, '_>, tree: &Opened<'_, Resolved>, parts: &[Measured]) -> Measured
     requires sees { CanSee over.now }
-    requires parts_in { All (IsMeasuredWithin over.now.ground.subtypes.now) parts.now }
     ensures within { IsMeasuredWithin over.now.ground.subtypes.now result }
     ensures is { IsMeasuredAs OfOperand over.now tree.now.form tree.now.text.now tree.now.parts parts.now result }
 {
     let subtypes = over.ground.subtypes;
-    let mark = tree.form.mark;
-    let operand = if same_type(mark_of(&tree.parts), mark) {
-        0
-    } else {
-        1
-    };
-    alone(
-        subtypes,
-        typed(over, mark, length_of(subtypes, parts, operand)),
-    )
+    let length = operand_length(subtypes, tree, parts);
+    alone(subtypes, typed(over, tree.form.mark, length))
 }
 
 /// A list in brackets that is no piece of a name.
@@ -111,7 +121,6 @@ fn behind_name(
 ) -> Result<Measured, AllocError>
     requires sees { CanSee over.now }
     requires fields { AreJumps fields.old.jumps.items over.now.ground.subtypes.now }
-    requires parts_in { All (IsMeasuredWithin over.now.ground.subtypes.now) parts.now }
     ensures within { IfOk result (IsMeasuredWithin over.now.ground.subtypes.now) }
     ensures is { IfOk result (IsMeasuredAs SomeArguments over.now tree.now.form tree.now.text.now tree.now.parts parts.now) }
     ensures fields { AreJumps fields.new.jumps.items over.now.ground.subtypes.now }

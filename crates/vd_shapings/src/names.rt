@@ -15,11 +15,7 @@ use vd_indicated_fields::FieldTable;
 
 /// The part with a number.
 
-pub(crate) fn part(
-    subtypes: &Store<IndicatedForm>,
-    parts: &[Measured],
-    number: usize,
-) -> Measured
+pub(crate) fn part(subtypes: &Store<IndicatedForm>, parts: &[Measured], number: usize) -> Measured
     requires { All (IsMeasuredWithin subtypes.now) parts.now }
     ensures within { IsMeasuredWithin subtypes.now result }
     ensures is { (ss : List Shaping) → AreMeasured subtypes.now parts.now ss → IsMeasured subtypes.now result (nth_shaping number ss) }

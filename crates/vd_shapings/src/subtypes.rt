@@ -148,7 +148,9 @@ pub(crate) fn sliced(
     match subtype {
         NameSubtype::Stored(of) => NameSubtype::Slice { of, bounds, known },
         NameSubtype::Slice {
-            of, known: before, ..
+            of,
+            known: before,
+            ..
         } => NameSubtype::Slice {
             of,
             bounds,
@@ -194,7 +196,10 @@ pub(crate) fn taken(subtypes: &Store<IndicatedForm>, subtype: NameSubtype) -> Bo
     requires { number_in subtype ≤ length subtypes.now }
     ensures { taken_by (indicated_by subtypes.now subtype) ≡ result }
 {
-    values_of(scalar_of(subtypes, subtype), own_bounds(subtypes, subtype).is_local)
+    values_of(
+        scalar_of(subtypes, subtype),
+        own_bounds(subtypes, subtype).is_local,
+    )
 }
 
 /// The values that each element of choices must take, where it is an array.
