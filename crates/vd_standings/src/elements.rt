@@ -67,7 +67,7 @@ fn formal_of_first(elements: &Cursor<'_, Resolved>, next: Option<DeclId>) -> Opt
 }
 
 /// The next formal in order, where so many are in front of it.
-fn next_formal(numbers: &[DeclId], at: usize) -> Option<DeclId>
+pub fn next_formal(numbers: &[DeclId], at: usize) -> Option<DeclId>
     ensures { result ≡ first_number (drop at numbers.now) }
 {
     numbers.get(at).copied()
@@ -75,7 +75,7 @@ fn next_formal(numbers: &[DeclId], at: usize) -> Option<DeclId>
 
 /// How many formals are in front of the element behind.
 #[tactic(auto, using(crate::proofs::PassedLemmas::further_of_drop, crate::proofs::PassedLemmas::further_past))]
-fn behind_formal(numbers: &[DeclId], at: usize) -> usize
+pub fn behind_formal(numbers: &[DeclId], at: usize) -> usize
     ensures { drop result numbers.now ≡ further_numbers (drop at numbers.now) }
 {
     if at < numbers.len() { at + 1 } else { at }

@@ -2,7 +2,7 @@
 //! (IEEE 1076, aggregates; association lists)
 #![tactic(auto)]
 
-mod elements;
+pub mod elements;
 pub mod lists;
 pub mod rows;
 pub mod standings;

@@ -1,0 +1,2 @@
+mod ActualLemmas
+pub mod AssociationLemmas
