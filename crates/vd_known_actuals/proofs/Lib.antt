@@ -1,0 +1,3 @@
+mod ElementLemmas
+mod FunctionLemmas
+pub mod ActualLemmas

@@ -1,0 +1,3 @@
+pub mod RuleLemmas
+mod StaticLemmas
+mod ElementLemmas
