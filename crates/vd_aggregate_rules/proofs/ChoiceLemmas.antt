@@ -11,7 +11,7 @@ use Rattle.vd_composites.specs.declared.ranges.Bounds.{Bounds}
 use Rattle.vd_environments.specs.Environments.{Env}
 use Rattle.vd_forest.specs.Forest.{Forest, more, nothing, parts_of}
 use Rattle.vd_forms.specs.declared.form.Form.{Form}
-use Rattle.vd_given_choices.proofs.ChoiceLemmas.{none_behind}
+use Rattle.vd_given_choices.proofs.ChoiceLemmas.{joined, none_behind}
 use Rattle.vd_given_choices.proofs.RefusalLemmas.{bounds_found, same_left_out}
 use Rattle.vd_given_choices.specs.Choices.{AreChoices}
 use Rattle.vd_given_choices.specs.Refusals.{bounds_in, those_known}
@@ -24,14 +24,6 @@ use Rattle.vd_value_rules.specs.Choices.{Given, are_covered, choices_given, earl
 use Rattle.vd_value_rules.specs.Designs.{Design}
 use Rattle.vd_value_rules.specs.Judging.{refused_if}
 use Rattle.vd_forms.specs.declared.form.Form.TheVariants as form
-
--- ---- lists of choices, one behind the other
-
-pub joined : (xs ys : List Choice) (gs hs : List Given) → AreChoices xs gs → AreChoices ys hs → AreChoices (xs ++ ys) (gs ++ hs)
-joined [] ys [] hs are those = those
-joined [] ys (g ∷ gs) hs are those = absurd are
-joined (x ∷ xs) ys [] hs are those = absurd are
-joined (x ∷ xs) ys (g ∷ gs) hs are those = (are.0, joined xs ys gs hs are.1 those)
 
 -- what is made of the elements so far
 abbrev pub IsMade : Design → Env → Forest Resolved → Forest Resolved → List Choice → Type 0
