@@ -1,1 +1,4 @@
+pub mod Extents
+pub mod Holding
+pub mod Kinds
 pub mod Shapes

@@ -1,0 +1,2 @@
+mod StackLemmas
+mod VisitLemmas
