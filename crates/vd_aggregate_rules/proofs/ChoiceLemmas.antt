@@ -1,6 +1,7 @@
 -- Choices of the elements of aggregates.
-use Rattle.std.proofs.Common.{◌≡◌, ◌∷◌, ◌++◌, List, [], ap, map, not, refl, subst, sym, true, false, Bool, Option, ℕ, ◌∙◌, ◌&&◌}
-use Rattle.std.specs.Prelude.{Err, IfOk, Ok, Result, is_some}
+use Rattle.std.proofs.Common.{◌≡◌, ◌∷◌, ◌++◌, List, [], ap, not, refl, subst, sym, true, false, Bool, Option, ℕ, ◌∙◌, ◌&&◌}
+use Rattle.std.specs.Global.{Global}
+use Rattle.std.specs.Prelude.{Err, IfOk, Ok, Result, Vec, is_some}
 use Rattle.std.specs.List.{list_all}
 use Rattle.std.proofs.lemmas.List.{append_assoc}
 use Rattle.vd_bytes.specs.declared.answers.Refused.{Refused}
@@ -8,27 +9,21 @@ use Rattle.vd_bytes.specs.declared.places.Place.{Place}
 use Rattle.vd_composites.specs.Aggregates.{chosen_bounds}
 use Rattle.vd_composites.specs.declared.ranges.Bounds.{Bounds}
 use Rattle.vd_environments.specs.Environments.{Env}
-use Rattle.vd_forest.specs.Forest.{Forest, more, nothing}
-use Rattle.vd_given_choices.proofs.ChoiceLemmas.{none_behind}
+use Rattle.vd_forest.specs.Forest.{Forest, more, nothing, parts_of}
+use Rattle.vd_forms.specs.declared.form.Form.{Form}
+use Rattle.vd_given_choices.proofs.ChoiceLemmas.{joined, none_behind}
 use Rattle.vd_given_choices.proofs.RefusalLemmas.{bounds_found, same_left_out}
-use Rattle.vd_given_choices.specs.Choices.{AreChoices, IsChoice}
+use Rattle.vd_given_choices.specs.Choices.{AreChoices}
 use Rattle.vd_given_choices.specs.Refusals.{bounds_in, those_known}
 use Rattle.vd_given_choices.specs.declared.choices.Choice.{Choice}
 use Rattle.vd_least.specs.Least.{least_of, lesser}
 use Rattle.vd_least.proofs.LeastLaws.{least_of_append}
 use Rattle.vd_resolved.specs.declared.node.Resolved.{Resolved}
 use Rattle.vd_value_rules.specs.Aggregates.{array_broken, array_leaves_out, choices_of_association, choices_of_elements, has_others_element, leave_gap}
-use Rattle.vd_value_rules.specs.Choices.{Given, are_covered, early_bounds, not_static, repeated, share}
+use Rattle.vd_value_rules.specs.Choices.{Given, are_covered, choices_given, early_bounds, not_static, repeated, share}
 use Rattle.vd_value_rules.specs.Designs.{Design}
 use Rattle.vd_value_rules.specs.Judging.{refused_if}
-
--- ---- lists of choices, one behind the other
-
-pub joined : (xs ys : List Choice) (gs hs : List Given) → AreChoices xs gs → AreChoices ys hs → AreChoices (xs ++ ys) (gs ++ hs)
-joined [] ys [] hs are those = those
-joined [] ys (g ∷ gs) hs are those = absurd are
-joined (x ∷ xs) ys [] hs are those = absurd are
-joined (x ∷ xs) ys (g ∷ gs) hs are those = (are.0, joined xs ys gs hs are.1 those)
+use Rattle.vd_forms.specs.declared.form.Form.TheVariants as form
 
 -- what is made of the elements so far
 abbrev pub IsMade : Design → Env → Forest Resolved → Forest Resolved → List Choice → Type 0
@@ -95,3 +90,11 @@ refused_of_choices e is_bounded place elements gs has_others gap later repeats o
     ∙ sym (least_of_append (first ++ second ++ third has_others gap) (fourth has_others))
     ∙ ap (λ h. least_of (first ++ second ++ third h gap ++ fourth h)) others_is
     ∙ ap (λ g. least_of (first ++ second ++ third (has_others_element elements) g ++ fourth (has_others_element elements))) gap_is
+
+-- ---- the choices of an element
+
+pub association_choices : {E : Type 0} (f : Form) (d : Design) (e : Env) (parts inner : Forest Resolved) (r : Result (Vec Choice Global) E) → f ≡ form.Association
+    → inner ≡ parts_of parts → IfOk r (λ xs. AreChoices xs.items (choices_given d e inner)) → IfOk r (λ xs. AreChoices xs.items (choices_of_association f d e parts))
+association_choices f d e parts inner (Ok xs) is same are =
+    subst (λ g. AreChoices xs.items (choices_of_association g d e parts)) (sym is) (subst (λ i. AreChoices xs.items (choices_given d e i)) same are)
+association_choices f d e parts inner (Err h) is same are = tt

@@ -1,12 +1,12 @@
 -- Elements in brackets, by their forms.
-use Rattle.std.proofs.Common.{◌≡◌, ◌∷◌, List, [], ap, false, refl, sym, true, Bool, ℕ, ◌∙◌, ◌||◌}
+use Rattle.std.proofs.Common.{◌≡◌, List, ap, false, refl, sym, true, Bool, ℕ, ◌∙◌}
 use Rattle.vd_aggregate_rules.specs.Elements.{sort_in}
 use Rattle.vd_aggregate_rules.specs.declared.elements.ElementSort.{ElementSort}
 use Rattle.vd_aggregate_rules.specs.declared.elements.ElementSort.TheVariants.{Chosen, Inner, Others, Plain}
 use Rattle.vd_bytes.specs.declared.places.Place.{Place}
 use Rattle.vd_forest.specs.Forest.{Forest, more, nothing}
 use Rattle.vd_meaning.specs.Brackets.{is_positional}
-use Rattle.vd_meaning.specs.Facets.{Association, ByChoices, ForOthers, Meaning, Positional, nth}
+use Rattle.vd_meaning.specs.Facets.{Meaning, nth}
 use Rattle.vd_meaning.specs.Kinds.{Kind, NotThere, kind}
 use Rattle.vd_meaning.specs.Meanings.{meaning_of, meanings}
 use Rattle.vd_meaning.specs.Tables.{Table}

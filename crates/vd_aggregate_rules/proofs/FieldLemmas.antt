@@ -1,12 +1,13 @@
 -- Elements of records that are given.
-use Rattle.std.proofs.Common.{◌≡◌, ◌∷◌, ◌++◌, ◌+◌, ◌<◌, ◌≤◌, List, [], ap, arith, drop, get_or, length, map, nat_eq, not, refl, subst, suc, sym, take, true, false, Bool, Option, ℕ, ◌∙◌, ◌&&◌, ◌||◌, ◌==◌, if◌then◌else◌}
+use Rattle.std.proofs.Common.{◌≡◌, ◌∷◌, ◌++◌, ◌+◌, ◌<◌, ◌≤◌, List, [], ap, drop, get_or, length, map, nat_eq, not, refl, suc, sym, take, true, false, Bool, Option, ℕ, ◌∙◌, ◌&&◌, ◌||◌, ◌==◌, if◌then◌else◌}
 use Rattle.std.proofs.lemmas.List.{append_assoc, drop_all, drop_more, get_or-map, length-map, take_more}
-use Rattle.std.specs.List.{list_any}
+use Rattle.std.specs.Prelude.{Err, Ok, OnOk, Result}
 use Rattle.vd_aggregate_rules.specs.Fields.{field_given, fields_broken}
 use Rattle.vd_aggregate_rules.specs.declared.fields.Field.{Field}
 use Rattle.vd_bytes.specs.declared.answers.Refused.{Refused}
 use Rattle.vd_bytes.specs.declared.places.Place.{Place}
-use Rattle.vd_forest.specs.Forest.{Forest, more, nothing}
+use Rattle.vd_forest.specs.Forest.{Forest, more, nothing, parts_of}
+use Rattle.vd_forms.specs.declared.form.Form.{Form}
 use Rattle.vd_least.specs.Least.{least_of, lesser}
 use Rattle.vd_least.proofs.LeastLaws.{least_of_append}
 use Rattle.vd_least.proofs.OrderLaws.{lesser_right}
@@ -18,6 +19,7 @@ use Rattle.vd_resolved.specs.declared.node.Resolved.{Resolved}
 use Rattle.vd_value_rules.specs.Aggregates.{FieldGiven, fields_given, fields_of_choices, fields_of_form, fields_repeated, is_given_at, record_leaves_out}
 use Rattle.vd_value_rules.specs.Designs.{Design}
 use Rattle.vd_value_rules.specs.Judging.{refused_if}
+use Rattle.vd_forms.specs.declared.form.Form.TheVariants as form
 
 map_behind : (xs ys : List Field) → map field_given (xs ++ ys) ≡ map field_given xs ++ map field_given ys
 map_behind [] ys = refl
@@ -49,11 +51,11 @@ module _ (d : Design) where
 
   -- ---- all elements
 
-  pub given_more : (rest : Forest Resolved) (n : Resolved) (text : List ℕ) (place : Place) (parts next : Forest Resolved) (k : ℕ) (xs ys : List Field) (all : List FieldGiven)
-      → rest ≡ more n text place parts next → map field_given ys ≡ map field_given xs ++ fields_of_form n.form d k place parts
-      → map field_given xs ++ fields_given d k rest ≡ all → map field_given ys ++ fields_given d (suc k) next ≡ all
-  given_more rest n text place parts next k xs ys all is pushed before =
-      ap (λ l. l ++ fields_given d (suc k) next) pushed
+  pub given_more : (rest : Forest Resolved) (n : Resolved) (text : List ℕ) (place : Place) (parts next : Forest Resolved) (k next_k : ℕ) (xs ys : List Field) (all : List FieldGiven)
+      → rest ≡ more n text place parts next → next_k ≡ suc k → map field_given ys ≡ map field_given xs ++ fields_of_form n.form d k place parts
+      → map field_given xs ++ fields_given d k rest ≡ all → map field_given ys ++ fields_given d next_k next ≡ all
+  given_more rest n text place parts next k next_k xs ys all is counted pushed before =
+      ap (λ m. map field_given ys ++ fields_given d m next) counted ∙ ap (λ l. l ++ fields_given d (suc k) next) pushed
       ∙ append_assoc (map field_given xs) (fields_of_form n.form d k place parts) (fields_given d (suc k) next)
       ∙ ap (λ f. map field_given xs ++ fields_given d k f) (sym is) ∙ before
 
@@ -127,16 +129,26 @@ refused_end fs j count place has_others is_missing found missing all past repeat
     ∙ sym (least_of_append (fields_repeated [] fs) (refused_if (not has_others && record_leaves_out count fs) place 403))
 
 -- in memory
-pub given_at : (xs : List Field) (j : ℕ) (x : Field) → j < length xs → x ≡ get_or xs j x → get_or (map field_given xs) j (field_given x) ≡ field_given x
-given_at xs j x within is = get_or-map field_given xs j x (field_given x) within ∙ ap field_given (sym is)
+pub given_at : (xs : List Field) (j : ℕ) (d : Field) → j < length xs → get_or (map field_given xs) j (field_given (get_or xs j d)) ≡ field_given (get_or xs j d)
+given_at xs j d within = get_or-map field_given xs j d (field_given (get_or xs j d)) within
 
 pub given_length : (xs : List Field) → length (map field_given xs) ≡ length xs
 given_length xs = length-map xs field_given
 
 -- ---- those that are missing
 
-pub one_missing : (fs : List FieldGiven) (k : ℕ) (seen : Bool) → seen ≡ is_given_at k fs → seen ≡ false → true ≡ record_leaves_out (suc k) fs
-one_missing fs k seen is none = sym (ap (λ b. not b || record_leaves_out k fs) (sym is ∙ none))
+pub one_missing : (fs : List FieldGiven) (k n : ℕ) (seen : Bool) → n ≡ suc k → seen ≡ is_given_at k fs → seen ≡ false → true ≡ record_leaves_out n fs
+one_missing fs k n seen next is none = sym (ap (λ m. record_leaves_out m fs) next ∙ ap (λ b. not b || record_leaves_out k fs) (sym is ∙ none))
 
-pub one_there : (fs : List FieldGiven) (k : ℕ) (seen : Bool) → seen ≡ is_given_at k fs → seen ≡ true → record_leaves_out k fs ≡ record_leaves_out (suc k) fs
-one_there fs k seen is there = sym (ap (λ b. not b || record_leaves_out k fs) (sym is ∙ there))
+pub one_there : (fs : List FieldGiven) (k n : ℕ) (seen : Bool) → n ≡ suc k → seen ≡ is_given_at k fs → seen ≡ true
+    → record_leaves_out k fs ≡ record_leaves_out n fs
+one_there fs k n seen next is there = sym (ap (λ m. record_leaves_out m fs) next ∙ ap (λ b. not b || record_leaves_out k fs) (sym is ∙ there))
+
+-- ---- the elements that an element of an aggregate stands for
+
+pub association_fields : {E : Type 0} (f : Form) (d : Design) (k : ℕ) (place : Place) (parts inner : Forest Resolved) (xs ys : List Field) (r : Result (Unit {0}) E)
+    → f ≡ form.Association → inner ≡ parts_of parts → OnOk r (map field_given ys ≡ map field_given xs ++ fields_of_choices d inner)
+    → OnOk r (map field_given ys ≡ map field_given xs ++ fields_of_form f d k place parts)
+association_fields f d k place parts inner xs ys (Ok u) is same are =
+    are ∙ ap (λ i. map field_given xs ++ fields_of_choices d i) same ∙ ap (λ g. map field_given xs ++ fields_of_form g d k place parts) (sym is)
+association_fields f d k place parts inner xs ys (Err h) is same are = tt

@@ -1,4 +1,5 @@
 mod AggregateLemmas
+mod AnswerLemmas
 mod ChoiceLemmas
 mod ElementLemmas
 mod FieldLemmas

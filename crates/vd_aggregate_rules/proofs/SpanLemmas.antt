@@ -1,12 +1,12 @@
 -- From the least to the greatest value of ranges.
-use Rattle.std.proofs.Common.{◌≡◌, ◌∷◌, ◌+◌, ◌<◌, Bool, List, None, Option, Some, [], ap, cc, drop, false, filter, get_or, if◌then◌else◌, length, not, refl, sym, true, ℕ, ◌∙◌}
+use Rattle.std.proofs.Common.{◌≡◌, ◌∷◌, ◌+◌, ◌<◌, Bool, List, None, Option, Some, [], ap, drop, false, filter, get_or, if◌then◌else◌, length, not, refl, slice_get, subst, sym, true, ℕ, ◌∙◌}
 use Rattle.std.proofs.lemmas.List.{drop_more}
 use Rattle.vd_aggregate_rules.specs.Spans.{span_in, spanned_with, wider}
 use Rattle.vd_composites.specs.Aggregates.{bounds_of_some, chosen_bounds, spanned}
 use Rattle.vd_composites.specs.Ranges.{is_null}
 use Rattle.vd_composites.specs.declared.ranges.Bounds.{Bounds}
 
-span_of_some : List Bounds → Option Bounds
+abbrev pub span_of_some : List Bounds → Option Bounds
 span_of_some [] = None
 span_of_some (b ∷ bs) = Some (spanned false b bs)
 
@@ -35,8 +35,12 @@ pub span_chosen : (bs : List Bounds) (s : Bounds) → span_in bs ≡ Some s → 
 span_chosen [] s is = absurd (cc)
 span_chosen (b ∷ bs) s is = some_span (filter (λ c. not (is_null c)) (b ∷ bs)) b s (sym (spans (b ∷ bs)) ∙ is)
 
-pub first_chosen : (b : Bounds) (bs : List Bounds) → span_in (b ∷ bs) ≡ None → b ≡ chosen_bounds false (b ∷ bs)
-first_chosen b bs is = no_span (filter (λ c. not (is_null c)) (b ∷ bs)) b (sym (spans (b ∷ bs)) ∙ is)
+first_of : (b : Bounds) (bs : List Bounds) → span_in (b ∷ bs) ≡ None → b ≡ chosen_bounds false (b ∷ bs)
+first_of b bs is = no_span (filter (λ c. not (is_null c)) (b ∷ bs)) b (sym (spans (b ∷ bs)) ∙ is)
+
+pub first_chosen : (bs : List Bounds) (b : Bounds) → slice_get bs 0 ≡ Some b → span_in bs ≡ None → b ≡ chosen_bounds false bs
+first_chosen [] b at is = absurd (cc)
+first_chosen (c ∷ bs) b at is = let same : c ≡ b = cc in subst (λ x. x ≡ chosen_bounds false (c ∷ bs)) same (first_of c bs is)
 
 pub span_more : (bs : List Bounds) (j : ℕ) (d : Bounds) (span wide : Option Bounds) → j < length bs → wide ≡ wider (get_or bs j d) span
     → span ≡ span_in (drop (j + 1) bs) → wide ≡ span_in (drop j bs)

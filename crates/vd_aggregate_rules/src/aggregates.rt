@@ -31,6 +31,7 @@ use vd_static_parts::numbers::number_or;
 
 /// Whether what a declaration stands for has bounds.
 fn has_bounded_subtype(design: &KnownDesign<'_, '_>, declaration: Option<DeclId>) -> bool
+    requires ready { IsReady design.now }
     ensures { (d : Design) (k : Known) (ks : List Known) → Knows d design.now (k ∷ ks) → result ≡ is_bounded_object k.env (number_or declaration) }
 {
     let own = design.table.own(number_or(declaration));
@@ -41,7 +42,10 @@ fn has_bounded_subtype(design: &KnownDesign<'_, '_>, declaration: Option<DeclId>
 fn is_record(design: &KnownDesign<'_, '_>, mark: TypeId) -> bool
     ensures { (d : Design) (ks : List Known) → Knows d design.now ks → result ≡ is_record_class (class_in d mark) }
 {
-    matches!(class_of(design.declarations, mark.number()), Class::RecordType)
+    matches!(
+        class_of(design.declarations, mark.number()),
+        Class::RecordType
+    )
 }
 
 /// The first refusal of an aggregate of a type.
@@ -104,7 +108,14 @@ fn refused_aggregate(
     let mark = node.form.mark;
     match node.form.form {
         Form::Aggregate => {
-            refused_brackets(design, alloc, mark, around.is_bounded, node.place, &node.parts)
+            refused_brackets(
+                design,
+                alloc,
+                mark,
+                around.is_bounded,
+                node.place,
+                &node.parts,
+            )
         }
         Form::Qualification => {
             let is_bounded = has_bounded_subtype(design, node.form.declaration);

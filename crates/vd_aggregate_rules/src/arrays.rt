@@ -1,6 +1,6 @@
 //! Aggregates of arrays.
 
-ghost use Rattle.std.specs.Prelude.{◌≡◌, ◌∷◌, IfOk, List, OnOk};
+ghost use Rattle.std.specs.Prelude.{◌≡◌, ◌&&◌, ◌∷◌, IfOk, List, OnOk, not};
 ghost use Rattle.vd_environments.specs.Environments.{Env};
 ghost use Rattle.vd_forest.specs.Forest.{Forest};
 ghost use Rattle.vd_given_choices.specs.Choices.{AreChoices};
@@ -12,7 +12,7 @@ ghost use Rattle.vd_value_rules.specs.Choices.{Given};
 ghost use Rattle.vd_value_rules.specs.Designs.{Design};
 ghost use Rattle.vd_value_rules.specs.Knowledge.{Known};
 
-use crate::elements::has_others;
+use crate::elements::{has_others, is_left_out};
 use crate::spans::chosen_bounds;
 use std::alloc::{AllocError, Global};
 use vd_bytes::{Place, Refused};
@@ -20,7 +20,8 @@ use vd_choice_covering::are_covered;
 use vd_forest::{Cursor, Opened};
 use vd_forms::Form;
 use vd_given_choices::{
-    Choice, add_choices, are_all_known, choices_given, first_not_static, first_repeated, known_bounds,
+    Choice, add_choices, are_all_known, choices_given, first_not_static, first_repeated,
+    known_bounds,
 };
 use vd_known_designs::KnownDesign;
 use vd_least::lesser;
@@ -77,6 +78,13 @@ fn leave_out(alloc: Global, choices: &[Choice]) -> Result<bool, AllocError>
     Ok(!covered)
 }
 
+/// Whether there is `others` at a place without bounds.
+fn lacks_bounds(has_others: bool, is_bounded: bool) -> bool
+    ensures { result ≡ (has_others && not is_bounded) }
+{
+    has_others && !is_bounded
+}
+
 /// The first refusal of choices of an aggregate, which may have `others` too.
 fn refused_choices(
     alloc: Global,
@@ -91,8 +99,8 @@ fn refused_choices(
     let later = first_not_static(choices);
     let repeated = first_repeated(alloc, choices)?;
     let gap = leave_out(alloc, choices)?;
-    let missing = refused_if(!has_others && gap, place, 403);
-    let unbounded = refused_if(has_others && !is_bounded, place, 410);
+    let missing = refused_if(is_left_out(has_others, gap), place, 403);
+    let unbounded = refused_if(lacks_bounds(has_others, is_bounded), place, 410);
     let of_choices = lesser(later, repeated);
     Ok(lesser(lesser(of_choices, missing), unbounded))
 }

@@ -1,6 +1,6 @@
 //! Elements in brackets.
 
-ghost use Rattle.std.specs.Prelude.{◌≡◌};
+ghost use Rattle.std.specs.Prelude.{◌≡◌, ◌&&◌, not};
 ghost use Rattle.vd_aggregate_rules.specs.Elements.{sort_in};
 ghost use Rattle.vd_meaning.specs.Brackets.{is_positional as positional};
 ghost use Rattle.vd_meaning.specs.Facets.{nth};
@@ -86,4 +86,11 @@ pub(crate) fn has_others(elements: &Cursor<'_, Resolved>) -> bool
         rest = first.next;
     }
     false
+}
+
+/// Whether something is left out that `others` would stand for.
+pub(crate) fn is_left_out(has_others: bool, is_missing: bool) -> bool
+    ensures { result ≡ (not has_others && is_missing) }
+{
+    !has_others && is_missing
 }

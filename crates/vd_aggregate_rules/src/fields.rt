@@ -11,7 +11,7 @@ ghost use Rattle.vd_value_rules.specs.Aggregates.{FieldGiven, fields_given as gi
 ghost use Rattle.vd_value_rules.specs.Designs.{Design};
 ghost use Rattle.vd_value_rules.specs.Knowledge.{Known};
 
-use crate::elements::has_others;
+use crate::elements::{has_others, is_left_out};
 use indexmap::IndexSet;
 use std::alloc::{AllocError, Global};
 use vd_bytes::{Place, Refused};
@@ -160,7 +160,7 @@ fn refused_fields(
         found = lesser(found, refused);
     }
     let is_missing = is_one_missing(&seen, count);
-    let missing = refused_if(!has_others && is_missing, place, 403);
+    let missing = refused_if(is_left_out(has_others, is_missing), place, 403);
     Ok(lesser(found, missing))
 }
 

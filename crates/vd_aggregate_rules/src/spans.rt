@@ -10,21 +10,13 @@ use vd_composites::Bounds;
 fn lesser(a: i64, b: i64) -> i64
     ensures { result ≡ lesser_of a b }
 {
-    if a <= b {
-        a
-    } else {
-        b
-    }
+    if a <= b { a } else { b }
 }
 
 fn greater(a: i64, b: i64) -> i64
     ensures { result ≡ greater_of a b }
 {
-    if a <= b {
-        b
-    } else {
-        a
-    }
+    if a <= b { b } else { a }
 }
 
 /// From the least to the greatest value of a range and of what there is so far.

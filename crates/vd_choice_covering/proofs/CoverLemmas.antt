@@ -25,7 +25,7 @@ order_counted k m n (negsuc i) (pos j) a b h = grind (arith, ints)
 order_counted k m n (negsuc i) (negsuc j) a b h = grind (arith, ints)
 
 -- what isn't less than a number that is counted is counted
-far_enough : (k m : ℕ) (i j : ℤ) → pos m ≡ i +ℤ pos k → int_le i j ≡ true → (n : ℕ) × (pos n ≡ j +ℤ pos k)
+pub far_enough : (k m : ℕ) (i j : ℤ) → pos m ≡ i +ℤ pos k → int_le i j ≡ true → (n : ℕ) × (pos n ≡ j +ℤ pos k)
 far_enough k m i (pos j) a h = (j + k, refl)
 far_enough k m (pos i) (negsuc j) a h = absurd cc
 far_enough k m (negsuc i) (negsuc j) a h = below k m i j a (grind (arith, ints))
@@ -33,7 +33,7 @@ far_enough k m (negsuc i) (negsuc j) a h = below k m i j a (grind (arith, ints))
     below : (k m i j : ℕ) → pos m ≡ negsuc i +ℤ pos k → j ≤ i → (n : ℕ) × (pos n ≡ negsuc j +ℤ pos k)
     below k m i j a h = (k - suc j, omega (arith, ints, a, h))
 
-number_of : (k v : ℕ) → (i : ℤ) × (pos v ≡ i +ℤ pos k)
+pub number_of : (k v : ℕ) → (i : ℤ) × (pos v ≡ i +ℤ pos k)
 number_of k v = (pos v -ℤ pos k, omega (arith, ints))
 
 -- ---- ranges
@@ -43,19 +43,19 @@ bounds_by_size : (l r i : ℤ) (down : Bool) → is_within (record { left = l; r
 bounds_by_size l r i true = refl
 bounds_by_size l r i false = refl
 
-by_size : (b : Bounds) (i : ℤ) → is_within b i ≡ (int_le (low_of b) i && int_le i (high_of b))
+pub by_size : (b : Bounds) (i : ℤ) → is_within b i ≡ (int_le (low_of b) i && int_le i (high_of b))
 by_size b i = bounds_by_size b.left b.right i b.down
 
 both : (a b : Bool) → a ≡ true → b ≡ true → (a && b) ≡ true
 both a b is too = ap (λ c. c && b) is ∙ too
 
 module _ (i : ℤ) (v : ℕ) (counted : pos v ≡ i +ℤ pos middle) where
-  interval_has : (x : Interval) (b : Bounds) → IsInterval x b → is_within b i ≡ true → Has x v
+  pub interval_has : (x : Interval) (b : Bounds) → IsInterval x b → is_within b i ≡ true → Has x v
   interval_has x b is within =
       let two = both_true (int_le (low_of b) i) (int_le i (high_of b)) (sym (by_size b i) ∙ within) in
       (counted_order middle x.low v (low_of b) i is.low counted two.0, counted_order middle v x.high i (high_of b) counted is.high two.1)
 
-  range_has : (x : Interval) (b : Bounds) → IsInterval x b → Has x v → is_within b i ≡ true
+  pub range_has : (x : Interval) (b : Bounds) → IsInterval x b → Has x v → is_within b i ≡ true
   range_has x b is has =
       by_size b i ∙ both (int_le (low_of b) i) (int_le i (high_of b)) (order_counted middle x.low v (low_of b) i is.low counted has.0)
       (order_counted middle v x.high i (high_of b) counted is.high has.1)
@@ -99,7 +99,7 @@ module _ (w : Interval) (within : Bounds) (is : IsInterval w within) (xs : List 
       let given = covered n.0 (interval_has i n.0 n.1 w within is inside) in
       ranges_give_at i n.0 n.1 given.0 xs bs are given.1)
 
-  by_answer : (a c : Bool) → (a ≡ true → c ≡ true) → (c ≡ true → a ≡ true) → a ≡ c
+  pub by_answer : (a c : Bool) → (a ≡ true → c ≡ true) → (c ≡ true → a ≡ true) → a ≡ c
   by_answer true c there back = sym (there refl)
   by_answer false true there back = back refl
   by_answer false false there back = refl

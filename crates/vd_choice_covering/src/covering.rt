@@ -10,14 +10,14 @@ use vd_choices::{Interval, covers};
 use vd_composites::Bounds;
 
 /// A value, counted from the least one that there is.
-fn counted(value: i64) -> u64
+pub fn counted(value: i64) -> u64
     ensures { pos result ≡ value +ℤ pos middle }
 {
     (i128::from(value) + 9_223_372_036_854_775_808) as u64
 }
 
 /// The interval of the values of a range.
-fn interval(bounds: Bounds) -> Interval
+pub(crate) fn interval(bounds: Bounds) -> Interval
     ensures { IsInterval result bounds }
 {
     Interval {

@@ -3,6 +3,8 @@
 
 pub mod covering;
 pub mod ranges;
+pub mod texts;
 
-pub use covering::are_covered;
+pub use covering::{are_covered, counted};
 pub use ranges::any_shares;
+pub use texts::are_texts_covered;

@@ -18,7 +18,7 @@ use Rattle.vd_static_entries.specs.Nodes.{AreNodes, IsNode}
 use Rattle.vd_static_entries.specs.Senses.{IsSense}
 use Rattle.vd_static_entries.specs.declared.nodes.Node.{Node}
 use Rattle.vd_static_entries.specs.declared.senses.Sense.{Sense}
-use Rattle.vd_value_rules.specs.Choices.{choice_given, choices_given, first_meaning, place_or}
+use Rattle.vd_value_rules.specs.Choices.{choice_given, choices_given, first_meaning, place_or, Given}
 use Rattle.vd_value_rules.specs.Designs.{Design}
 
 pub one_more : {A : Type 0} (xs ys : List A) (x : A) → (xs ++ x ∷ []) ++ ys ≡ xs ++ x ∷ ys
@@ -80,3 +80,11 @@ choice_is subtypes e m s place range is found =
 pub anyway : {T E : Type 0} (A : Type 0) (P : T → Type 0) (r : Result T E) → IfOk r P → IfOk r (λ x. A → P x)
 anyway A P (Ok x) is = λ a. is
 anyway A P (Err e) is = tt
+
+-- ---- lists of choices, one behind the other
+
+pub joined : (xs ys : List Choice) (gs hs : List Given) → AreChoices xs gs → AreChoices ys hs → AreChoices (xs ++ ys) (gs ++ hs)
+joined [] ys [] hs are those = those
+joined [] ys (g ∷ gs) hs are those = absurd are
+joined (x ∷ xs) ys [] hs are those = absurd are
+joined (x ∷ xs) ys (g ∷ gs) hs are those = (are.0, joined xs ys gs hs are.1 those)

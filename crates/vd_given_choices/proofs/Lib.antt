@@ -1,2 +1,3 @@
-mod ChoiceLemmas
+pub mod ChoiceLemmas
 pub mod RefusalLemmas
+pub mod RuleLemmas

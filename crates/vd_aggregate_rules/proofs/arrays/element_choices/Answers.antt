@@ -1,11 +1,10 @@
-use Rattle.std.proofs.Common.{ap, subst, sym}
 use Rattle.vd_aggregate_rules.proofs.ChoiceLemmas.{made_all, made_more}
 use Rattle.vd_aggregate_rules.proofs.arrays.element_choices.Goals as goal
 
 pub choices_at-requires : goal.choices_at-requires
 choices_at-requires c =
     let r = c.requires.ready in
-    record { design = r.design; now = r.now; round = r.round; knows = c.loop-first.invariant.knows r.design _ r.knows }
+    record { ready = record { design = r.design; now = r.now; round = r.round; knows = c.loop-first.invariant.knows r.design _ r.knows } }
 
 pub loop-first-preserved : goal.loop-first-preserved
 loop-first-preserved c =

@@ -3,9 +3,9 @@ use Rattle.indexmap.specs.IndexSet.{contains}
 use Rattle.vd_value_rules.specs.Aggregates.{FieldGiven, is_given_at, record_leaves_out}
 use Rattle.vd_aggregate_rules.proofs.fields.is_one_missing.Given as goal
 
-abbrev pub invariant-loop : goal.invariant-loop
-invariant-loop l =
+abbrev pub invariant-loop-left : goal.invariant-loop-left
+invariant-loop-left l =
     (fs : List FieldGiven) → ((k : ℕ) → contains nat_eq l.seen k ≡ is_given_at k fs) → record_leaves_out l.left fs ≡ record_leaves_out l.count fs
 
-abbrev pub decreases-loop : goal.decreases-loop
-decreases-loop l = l.left
+abbrev pub decreases-loop-left : goal.decreases-loop-left
+decreases-loop-left l = l.left

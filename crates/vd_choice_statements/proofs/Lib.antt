@@ -1,0 +1,3 @@
+mod AlternativeLemmas
+mod SelectorLemmas
+mod StatementLemmas

@@ -1,0 +1,51 @@
+-- Statements by their parts.
+use Rattle.std.proofs.Common.{◌≡◌, Bool, List, None, Option, Some, ap, ap₂, false, refl, subst, sym, true, zero, suc, ℕ, ◌∙◌}
+use Rattle.vd_bytes.specs.declared.places.Place.{Place}
+use Rattle.vd_choice_statements.specs.Statements.{IsSelecting, comparison_of, selecting_by_word, word_there}
+use Rattle.vd_choice_statements.specs.declared.statements.Selecting.{Selecting}
+use Rattle.vd_facets.proofs.PassingLemmas.{nth_skipped}
+use Rattle.vd_forest.specs.Forest.{Forest, more, no_place, nothing, place_of, skipped}
+use Rattle.vd_given_choices.specs.Choices.{AreChoices}
+use Rattle.vd_given_choices.specs.declared.choices.Choice.{Choice}
+use Rattle.vd_meaning.specs.Facets.{nth}
+use Rattle.vd_meaning.specs.Meanings.{meanings}
+use Rattle.vd_meaning.specs.Statements.{comparison}
+use Rattle.vd_resolved.specs.declared.node.Resolved.{Resolved}
+use Rattle.vd_shapings.specs.Shapes.{IsShape}
+use Rattle.vd_shapings.specs.declared.shapes.Shape.{Shape}
+use Rattle.vd_value_rules.specs.Choices.{all_choices, has_others, is_selectable, place_or}
+use Rattle.vd_value_rules.specs.Designs.{Design}
+use Rattle.vd_value_rules.specs.Knowledge.{Known}
+use Rattle.vd_value_rules.specs.Lengths.{nth_shaping, shapings}
+use Rattle.vd_value_rules.specs.Standings.{State}
+use Rattle.vd_vectors.specs.declared.logics.LogicType.{LogicType}
+
+pub word_skipped : (d : Design) (n : ℕ) (parts tree : Forest Resolved) (there : Bool) → tree ≡ skipped n parts → there ≡ (nth 0 (meanings d.table tree)).is_present
+    → there ≡ word_there d (Some n) parts
+word_skipped d n parts tree there skips is =
+    is ∙ ap (λ f. (nth 0 (meanings d.table f)).is_present) skips ∙ ap (λ m. m.is_present) (sym (nth_skipped n d.table parts))
+
+shaping_skipped_nothing : (d : Design) (k : Known) (n : ℕ) → nth_shaping n (shapings d k nothing) ≡ nth_shaping 0 (shapings d k (skipped n nothing))
+shaping_skipped_nothing d k n = ?
+
+shaping_skipped : (d : Design) (k : Known) (n : ℕ) (parts : Forest Resolved) → nth_shaping n (shapings d k parts) ≡ nth_shaping 0 (shapings d k (skipped n parts))
+shaping_skipped d k zero parts = refl
+shaping_skipped d k (suc n) nothing = shaping_skipped_nothing d k (suc n)
+shaping_skipped d k (suc n) (more m text place parts next) = shaping_skipped d k n next
+
+module _ (d : Design) (s : State) (own place : Place) (parts tree : Forest Resolved) (selector at : ℕ) (alternatives : Forest Resolved) (label : place ≡ place_or s.label own)
+    (skips : tree ≡ skipped selector parts) where
+  compared : (word : Option ℕ) (there : Bool) (of : Option LogicType) → there ≡ word_there d word parts
+      → comparison d.table there (nth 0 (meanings d.table tree)) ≡ comparison_of of
+      → (selecting_by_word d s own parts selector word at alternatives).comparison ≡ comparison_of of
+  compared None there of is compares = ap (λ b. comparison d.table b (nth 0 (meanings d.table tree))) (sym is) ∙ compares
+  compared (Some n) there of is compares =
+      ap₂ (λ b m. comparison d.table b m) (sym is) (nth_skipped selector d.table parts ∙ ap (λ f. nth 0 (meanings d.table f)) (sym skips)) ∙ compares
+
+  pub selecting_is : (word : Option ℕ) (there selectable others : Bool) (of : Option LogicType) (at_selector : Place) (shape : Shape) (choices : List Choice)
+      → there ≡ word_there d word parts → comparison d.table there (nth 0 (meanings d.table tree)) ≡ comparison_of of
+      → at_selector ≡ place_or (place_of tree) no_place → IsShape shape (nth_shaping 0 (shapings d s.known tree)).shaped
+      → selectable ≡ is_selectable d tree → others ≡ has_others at alternatives → (x : Selecting) → x.place ≡ place → x.selector_place ≡ at_selector → x.shape ≡ shape
+      → x.is_selectable ≡ selectable → x.matching ≡ of → x.has_others ≡ others → AreChoices x.choices.items (all_choices d s.known.env at alternatives)
+      → IsSelecting x (selecting_by_word d s own parts selector word at alternatives)
+  selecting_is word there selectable others of at_selector shape choices there_is compares at_is shape_is selectable_is others_is x p a sh se ma ot are = ?
