@@ -13,7 +13,6 @@ use vd_aggregate_rules::aggregate_refusals;
 use vd_bound_rules::bound_refusals;
 use vd_choice_rules::choice_refusals;
 use vd_forest::Opened;
-use vd_instance_rules::instance_refusals;
 use vd_known_designs::KnownDesign;
 use vd_known_places::Surroundings;
 use vd_port_modes::Interfaces;
@@ -38,10 +37,8 @@ pub(crate) fn refusals(
     let aggregates = aggregate_refusals(design, interfaces, alloc, around, node)?;
     let statics = static_refusals(design, interfaces, alloc, around, node)?;
     let bounds = bound_refusals(design, interfaces, alloc, around, node)?;
-    let instances = instance_refusals(design, interfaces, alloc, around, node)?;
     let types = type_refusals(design, interfaces, alloc, around, node)?;
-    let last = together(instances, types);
-    let later = together(bounds, last);
+    let later = together(bounds, types);
     let further = together(statics, later);
     let others = together(aggregates, further);
     Ok(together(choices, others))

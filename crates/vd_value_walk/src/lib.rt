@@ -1,5 +1,5 @@
 //! One walk over a resolved design for the rules that hang on what is known of its declarations: choices, aggregates, static expressions, bounds,
-//! port maps, and actuals that are types. (IEEE 1076, static expressions; case statement; aggregates; port map aspects)
+//! and actuals that are types. (IEEE 1076, static expressions; case statement; aggregates; generic map aspects)
 #![tactic(auto)]
 
 mod groups;
