@@ -57,7 +57,7 @@ fn text_declared<'a>(
     }
 }
 
-/// What an instance of a package with these parts declares.
+/// What an instance of a package with these parts declares. The text of the package is walked over again for each of its instances.
 pub(crate) fn instance_declared<'a>(
     design: &mut KnownDesign<'a, '_>,
     interfaces: &Interfaces<'_>,
