@@ -1,5 +1,5 @@
 -- Choices of alternatives.
-use Rattle.std.proofs.Common.{◌≡◌, ◌∷◌, ◌++◌, List, [], subst, sym, ℕ}
+use Rattle.std.proofs.Common.{◌≡◌, ◌++◌, List, [], subst, sym, ℕ}
 use Rattle.std.proofs.lemmas.List.{append_assoc}
 use Rattle.std.specs.Global.{Global}
 use Rattle.std.specs.Prelude.{Err, IfOk, Ok, Result, Vec}

@@ -23,6 +23,7 @@ use vd_known_designs::KnownDesign;
 use vd_known_places::node;
 use vd_operations::{Sort, sort_of};
 use vd_resolved::Resolved;
+use vd_static_entries::Node;
 use vd_trees::Revision;
 use vd_vectors::LogicType;
 
@@ -111,6 +112,13 @@ fn logic_of(sort: Sort) -> Option<LogicType>
     }
 }
 
+/// The type of a node.
+fn mark_in(node: &Node<'_>) -> Option<TypeId>
+    ensures { result ≡ node.now.sense.mark }
+{
+    node.sense.mark
+}
+
 /// The type of a selector.
 fn mark_of(
     design: &mut KnownDesign<'_, '_>,
@@ -123,7 +131,7 @@ fn mark_of(
     ensures knows { (d : Design) (ks : List Known) → Knows d design.old ks → Knows d design.new ks }
 {
     let node = node(design, alloc, selector)?;
-    Ok(node.sense.mark)
+    Ok(mark_in(&node))
 }
 
 /// The logical type by whose `?=` a selector is compared, where it is.

@@ -119,12 +119,7 @@ fn selecting_with(
 {
     let selector = parts.skip(numbers.selector);
     let shape = shape_of(design, alloc, &selector)?;
-    let matching = matching_of(
-        design,
-        alloc,
-        is_word_there(numbers.word, parts),
-        &selector,
-    )?;
+    let matching = matching_of(design, alloc, is_word_there(numbers.word, parts), &selector)?;
     let choices = alternative_choices(design, alloc, numbers.choices, alternatives)?;
     Ok(Selecting {
         place,

@@ -1,4 +1,3 @@
-use Rattle.std.proofs.Common.{subst}
 use Rattle.vd_choice_statements.proofs.AlternativeLemmas.{made_all, made_more}
 use Rattle.vd_choice_statements.proofs.alternatives.alternative_choices.Goals as goal
 

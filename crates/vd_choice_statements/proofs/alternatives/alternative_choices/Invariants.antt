@@ -1,4 +1,4 @@
-use Rattle.std.proofs.Common.{◌≡◌, ◌∷◌, List}
+use Rattle.std.proofs.Common.{◌∷◌, List}
 use Rattle.vd_choice_statements.proofs.AlternativeLemmas.{IsMade}
 use Rattle.vd_forest.specs.Forest.{tree_count}
 use Rattle.vd_known_designs.specs.Designs.{Knows}

@@ -1,4 +1,4 @@
-use Rattle.vd_choice_statements.proofs.SelectorLemmas.{selectable_before, selectable_later}
+use Rattle.vd_choice_statements.proofs.SelectorLemmas.{selectable_before}
 use Rattle.vd_choice_statements.proofs.selectors.is_selectable.Goals as goal
 
 pub returns : goal.returns
