@@ -24,7 +24,7 @@ bound_refusals-requires c = record {
 pub type_refusals-requires : goal.type_refusals-requires
 type_refusals-requires c = record {
   ready = ready_kept c.args.design.now _ c.requires.ready
-      (λ d ks knows. c.in_ok-bounds.ensures.knows d ks (c.in_ok-statics.ensures.knows d ks (c.in_ok-aggregates.ensures.knows d ks (c.in_ok-choices.ensures.knows d ks knows)))));
+      (λ d ks knows. c.in_ok-bounds.ensures.knows d ks (c.in_ok-statics.ensures.knows d ks (c.in_ok-aggregates.ensures.knows d ks (c.in_ok-choices.ensures.knows d ks knows))));
 }
 
 pub returns-clause-finds : goal.returns-clause-finds
