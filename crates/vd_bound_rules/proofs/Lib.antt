@@ -1,0 +1,5 @@
+pub mod LengthLemmas
+pub mod OperandLemmas
+pub mod ReadyLemmas
+pub mod RefusalLemmas
+pub mod SortLemmas
