@@ -5,7 +5,7 @@ use Rattle.vd_facets.specs.declared.passing.Passing.TheVariants.{Nothing, First,
 use Rattle.vd_facets.specs.Passing.{passing, first_named, last_tree}
 use Rattle.vd_bytes.specs.declared.places.Place.{Place}
 use Rattle.vd_forest.specs.Forest.{Forest, nothing, more, skipped, size}
-use Rattle.vd_meaning.specs.Brackets.{choice_of, or_else}
+use Rattle.vd_meaning.specs.Brackets.{choice_of, is_positional, or_else}
 use Rattle.vd_meaning.specs.Facets.{Meaning, nth, last_of, Association, Positional, ByChoices, ForOthers, Choice, MapElement}
 use Rattle.vd_meaning.specs.Kinds.{Kind, kind, NotThere}
 use Rattle.vd_meaning.specs.Meanings.{formal_named, meaning_of, map_element, meanings}
@@ -132,6 +132,9 @@ named_at t f = first_named (nth 0 (meanings t f)).choices
 abbrev pub formal_at : Table → Forest Resolved → Option ℕ
 formal_at t f = formal_named (nth 0 (meanings t f)).association (nth 0 (meanings t f)).choices
 
+abbrev pub positional_at : Table → Forest Resolved → Bool
+positional_at t f = is_positional (nth 0 (meanings t f)).association
+
 module _ (t : Table) (f : Forest Resolved) (n : Resolved) (text : List ℕ) (place : Place) (parts next : Forest Resolved) (p : Passing)
     (is : f ≡ more n text place parts next) (passed : p ≡ passing (kind n.form)) where
   pub declared_by : declared_at t f ≡ declaration_by p n (meanings t parts)
@@ -156,6 +159,11 @@ module _ (t : Table) (f : Forest Resolved) (n : Resolved) (text : List ℕ) (pla
       ap (formal_at t) is
       ∙ ap₂ formal_named (association_passed (kind n.form) t n text (meanings t parts)) (choices_passed (kind n.form) t n text (meanings t parts))
       ∙ ap (λ v. formal_named (association_by v (meanings t parts)) (choices_by v (meanings t parts))) (sym passed)
+
+  pub placed_by : positional_at t f ≡ is_positional (association_by p (meanings t parts))
+  placed_by =
+      ap (positional_at t) is ∙ ap is_positional (association_passed (kind n.form) t n text (meanings t parts))
+      ∙ ap (λ v. is_positional (association_by v (meanings t parts))) (sym passed)
 
   -- a mark that names nothing itself
   pub declared_last : p ≡ Last → is_some n.declaration ≡ false → declared_at t (last_tree parts) ≡ declared_at t f

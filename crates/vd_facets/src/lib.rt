@@ -8,5 +8,7 @@ mod reading;
 pub mod roles;
 
 pub use literals::quoted;
-pub use reading::{declaration_of, elements_of, formal_of, is_open, is_present, number_made};
+pub use reading::{
+    declaration_of, elements_of, formal_of, is_open, is_positional, is_present, number_made,
+};
 pub use roles::{Role, role_of};

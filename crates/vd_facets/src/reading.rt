@@ -3,6 +3,7 @@
 ghost use Rattle.std.specs.Prelude.{◌≡◌, ◌≤◌, [], MatchOption, map};
 ghost use Rattle.vd_forest.specs.Forest.{size};
 ghost use Rattle.vd_facets.specs.Passing.{first_named, last_tree};
+ghost use Rattle.vd_meaning.specs.Brackets.{is_positional as is_by_position};
 ghost use Rattle.vd_meaning.specs.Facets.{nth};
 ghost use Rattle.vd_meaning.specs.Meanings.{formal_named, made, map_element, meanings};
 ghost use Rattle.vd_meaning.specs.Names.{number_or};
@@ -137,4 +138,19 @@ pub fn elements_of<'a>(trees: &Cursor<'a, Resolved>) -> Option<Cursor<'a, Resolv
         }
     }
     None
+}
+
+/// Whether the first tree, as an element in brackets, stands for its position, and not for what it names in front of `=>` or for all others.
+pub fn is_positional(trees: &Cursor<'_, Resolved>) -> bool
+    ensures { (t : Table) → result ≡ is_by_position (nth 0 (meanings t trees.now)).association }
+{
+    let mut rest = trees.fork();
+    while let Some(first) = rest.open() {
+        match passing_of(first.form.form) {
+            Passing::OpenFirst => rest = first.parts,
+            Passing::First | Passing::Second => return false,
+            _ => return true,
+        }
+    }
+    true
 }

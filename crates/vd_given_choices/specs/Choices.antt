@@ -1,8 +1,18 @@
 -- Choices, with what is known of them when the text is analysed.
-use Rattle.std.specs.Prelude.{◌≡◌, ◌∷◌, List, [], true}
+use Rattle.std.specs.Prelude.{◌≡◌, ◌∷◌, List, Ok, [], false, true}
+use Rattle.vd_composites.specs.Composites.{Value}
+use Rattle.vd_composites.specs.Stops.{◌>>=◌}
+use Rattle.vd_composites.specs.declared.ranges.Bounds.{Bounds}
+use Rattle.vd_environments.specs.Got.{Got}
 use Rattle.vd_given_choices.specs.declared.choices.Choice.{Choice}
 use Rattle.vd_static_entries.specs.Entries.{IsFound}
+use Rattle.vd_meaning.specs.Names.{position_in}
 use Rattle.vd_value_rules.specs.Choices.{Given}
+use Rattle.vd_values.specs.declared.scalar.Scalar.{Scalar}
+
+-- the range from a scalar value to itself
+abbrev pub range_to_itself : Value Scalar → Got Bounds
+range_to_itself v = position_in v >>= λ i. Ok (record { left = i; right = i; down = false })
 
 pub record IsChoice (x : Choice) (g : Given) : Type 0 where
   pub place : g.place ≡ x.place

@@ -2,5 +2,9 @@
 #![tactic(auto)]
 
 pub mod choices;
+pub mod ranges;
+pub mod refusals;
 
-pub use choices::{Choice, choices_given};
+pub use choices::{Choice, add_choices, choices_given, place_of};
+pub use ranges::{are_all_known, known_bounds};
+pub use refusals::{first_not_static, first_repeated};

@@ -15,15 +15,15 @@ use vd_resolved::Resolved;
 
 /// What a node declares for the text behind it. What its parts declare is known, and what was known in front of them is remembered.
 pub fn unit_declared<'a>(
-    _design: &mut KnownDesign<'a, '_>,
+    design: &mut KnownDesign<'a, '_>,
     _interfaces: &Interfaces<'_>,
     _alloc: Global,
     _node: &Resolved,
     _parts: &Cursor<'a, Resolved>,
 ) -> Result<(), AllocError>
-    requires remembering { IsRemembering _design.old }
-    ensures knows { (inner k : Known) (ks : List Known) → Knows (design_in _interfaces.now) _design.old (inner ∷ k ∷ ks)
-        → OnOk result (Knows (design_in _interfaces.now) _design.new
+    requires remembering { IsRemembering design.old }
+    ensures knows { (inner k : Known) (ks : List Known) → Knows (design_in _interfaces.now) design.old (inner ∷ k ∷ ks)
+        → OnOk result (Knows (design_in _interfaces.now) design.new
           (unit_declared_by (declaring _node.now.form) (design_in _interfaces.now) _node.now _parts.now inner k ∷ ks)) }
 {
     Err(AllocError)
@@ -31,14 +31,14 @@ pub fn unit_declared<'a>(
 
 /// What all trees of a forest declare, one after the other.
 pub fn units_declared<'a>(
-    _design: &mut KnownDesign<'a, '_>,
+    design: &mut KnownDesign<'a, '_>,
     _interfaces: &Interfaces<'_>,
     _alloc: Global,
     _trees: &Cursor<'a, Resolved>,
 ) -> Result<(), AllocError>
-    requires ready { IsReady _design.old }
-    ensures knows { (k : Known) (ks : List Known) → Knows (design_in _interfaces.now) _design.old (k ∷ ks)
-        → OnOk result (Knows (design_in _interfaces.now) _design.new (all_declared (design_in _interfaces.now) _trees.now k ∷ ks)) }
+    requires ready { IsReady design.old }
+    ensures knows { (k : Known) (ks : List Known) → Knows (design_in _interfaces.now) design.old (k ∷ ks)
+        → OnOk result (Knows (design_in _interfaces.now) design.new (all_declared (design_in _interfaces.now) _trees.now k ∷ ks)) }
 {
     Err(AllocError)
 }

@@ -18,15 +18,15 @@ use vd_rule_groups::Firsts;
 
 /// The first refusals of a node.
 pub fn type_refusals(
-    _design: &mut KnownDesign<'_, '_>,
+    design: &mut KnownDesign<'_, '_>,
     _interfaces: &Interfaces<'_>,
     _alloc: Global,
     _around: &Surroundings,
     _node: &Opened<'_, Resolved>,
 ) -> Result<Firsts, AllocError>
-    requires ready { IsReady _design.old }
-    ensures finds { Finds types (design_in _interfaces.now) _design.old _around.now _node.now result }
-    ensures knows { (d : Design) (ks : List Known) → Knows d _design.old ks → OnOk result (Knows d _design.new ks) }
+    requires ready { IsReady design.old }
+    ensures finds { Finds types (design_in _interfaces.now) design.old _around.now _node.now result }
+    ensures knows { (d : Design) (ks : List Known) → Knows d design.old ks → OnOk result (Knows d design.new ks) }
 {
     Err(AllocError)
 }

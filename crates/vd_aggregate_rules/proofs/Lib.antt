@@ -1,0 +1,5 @@
+mod AggregateLemmas
+mod ChoiceLemmas
+mod ElementLemmas
+mod FieldLemmas
+mod SpanLemmas

@@ -1,0 +1,2 @@
+mod ChoiceLemmas
+pub mod RefusalLemmas

@@ -1,0 +1,2 @@
+mod PassedLemmas
+pub mod RowLemmas
