@@ -3,6 +3,7 @@ use Rattle.std.proofs.Common.{◌≡◌, ◌++◌, ◌&&◌, ◌∷◌, ◌∙�
 use Rattle.std.proofs.lemmas.List.Elements.{filter-append}
 use Rattle.std.proofs.lemmas.List.{append-nil}
 use Rattle.std.specs.List.{filter}
+use Rattle.vd_bound_rules.proofs.IndefiniteLemmas.{differing, differing_is, first_differs, no_more, none_differing, one_more}
 use Rattle.vd_bound_rules.proofs.SortLemmas.{operands_by_sort, unconstrained_by_sort}
 use Rattle.vd_bound_rules.specs.Sorts.{indication_of, number_in, operands_as, operands_in, place_in, unconstrained_at}
 use Rattle.vd_bound_rules.specs.declared.sorts.Operands.{Operands}
@@ -42,12 +43,16 @@ both_of_rules : (rs qs : List Refused) → HasNoNames rs → HasNoNames qs → H
 both_of_rules rs qs one other = filter-append is_of_names rs qs ∙ ap₂ (λ xs ys. xs ++ ys) one other
 
 module _ (d : Design) (s : State) where
+  differing_of_rules : (count : ℕ) (f : Forest Resolved) → HasNoNames (differing count d s f)
+  differing_of_rules zero f = ap (filter is_of_names) (no_more d s f)
+  differing_of_rules (suc count) nothing = ap (filter is_of_names) (none_differing d s (suc count))
+  differing_of_rules (suc count) (more n text place parts next) =
+      ap (filter is_of_names) (one_more d s count n text place parts next)
+      ∙ both_of_rules (refused_if (first_differs d s n (more n text place parts nothing) parts) place 410) (differing count d s next)
+      (one_of_rules (first_differs d s n (more n text place parts nothing) parts) place) (differing_of_rules count next)
+
   indefinite_of_rules : (count : ℕ) (f : Forest Resolved) → HasNoNames (indefinite count d s f)
-  indefinite_of_rules count nothing = refl
-  indefinite_of_rules zero (more n text place parts next) = refl
-  indefinite_of_rules (suc count) (more n text place parts next) =
-      both_of_rules (refused_if (is_indefinite d s n (shapings d s.known (more n text place parts nothing)) parts) place 410) (indefinite count d s next)
-      (one_of_rules (is_indefinite d s n (shapings d s.known (more n text place parts nothing)) parts) place) (indefinite_of_rules count next)
+  indefinite_of_rules count f = ap (filter is_of_names) (sym (differing_is d s count f)) ∙ differing_of_rules count f
 
   arguments_of_rules : (f : Forest Resolved) → HasNoNames (indefinite_arguments d s f)
   arguments_of_rules nothing = refl

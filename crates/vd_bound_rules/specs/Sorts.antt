@@ -1,5 +1,5 @@
 -- Forms, by which of their parts need bounds, and which are operands.
-use Rattle.std.specs.Prelude.{List, None, Option, Some, [], if◌then◌else◌, ℕ}
+use Rattle.std.specs.Prelude.{Bool, List, None, Option, Some, [], false, if◌then◌else◌, ℕ}
 use Rattle.vd_bytes.specs.declared.answers.Refused.{Refused}
 use Rattle.vd_bytes.specs.declared.places.Place.{Place}
 use Rattle.vd_bound_rules.specs.declared.sorts.Indication.{Indication}
@@ -11,7 +11,7 @@ use Rattle.vd_forms.specs.declared.form.Form.{Form}
 use Rattle.vd_forms.specs.declared.form.Form.TheVariants as form
 use Rattle.vd_meaning.specs.Kinds.{kind}
 use Rattle.vd_meaning.specs.Names.{number_or}
-use Rattle.vd_meaning.specs.Tables.{role_of}
+use Rattle.vd_meaning.specs.Tables.{FunctionRole, Role, role_of}
 use Rattle.vd_resolved.specs.declared.node.Resolved.{Resolved}
 use Rattle.vd_value_rules.specs.Bounds.{has_no_bounds, indefinite, indefinite_arguments, is_operator_called}
 use Rattle.vd_value_rules.specs.Choices.{place_at}
@@ -66,3 +66,8 @@ operands_as operands.TwoParts d s n parts = indefinite 2 d s parts
 operands_as operands.InBrackets d s n parts =
     if is_operator_called (role_of d.table n.declaration) d (number_or n.declaration) then indefinite_arguments d s parts else []
 operands_as operands.NoPart d s n parts = []
+
+-- a function that is brought is an operator
+abbrev pub called_as : Role → Bool → Bool
+called_as FunctionRole is_brought = is_brought
+called_as _ is_brought = false

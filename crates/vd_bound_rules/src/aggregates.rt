@@ -144,5 +144,6 @@ pub(crate) fn elements_given(
     }
     let named = length_of_elements(design, alloc, elements)?;
     let positional = positions(elements)?;
-    sum(Some(positional), named)
+    let total = sum(Some(positional), named)?;
+    Ok(total)
 }

@@ -24,6 +24,16 @@ use vd_resolved::Resolved;
 use vd_rule_groups::Firsts;
 use vd_trees::Revision;
 
+/// Whether lengths of operands are asked for.
+fn is_asked(revision: Revision, is_copied: bool) -> bool
+    ensures { result ≡ (is_2019 revision && is_copied) }
+{
+    match revision {
+        Revision::V2019 => is_copied,
+        Revision::V1993 => false,
+    }
+}
+
 /// 410 of what is written in text that is copied, in revision 2019.
 fn copied_operands(
     design: &mut KnownDesign<'_, '_>,
@@ -37,7 +47,7 @@ fn copied_operands(
         ≡ least_of (if is_2019 revision && is_copied then operands_of node.now.form.form d s node.now.form node.now.parts else [])) }
     ensures knows { (d : Design) (ks : List Known) → Knows d design.old ks → Knows d design.new ks }
 {
-    if matches!(revision, Revision::V2019) && is_copied {
+    if is_asked(revision, is_copied) {
         operand_refusal(design, alloc, node)
     } else {
         Ok(None)

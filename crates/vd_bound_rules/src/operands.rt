@@ -1,14 +1,14 @@
 //! Operands and selectors of constrained array types.
 
 ghost use Rattle.std.specs.Prelude.{◌≡◌, ◌∷◌, IfOk, List};
-ghost use Rattle.vd_bound_rules.specs.Sorts.{operands_as};
+ghost use Rattle.vd_bound_rules.specs.Sorts.{called_as, operands_as};
 ghost use Rattle.vd_bound_rules.specs.declared.sorts.Operands.TheVariants.{InBrackets};
 ghost use Rattle.vd_facets.specs.Roles.{read_role};
 ghost use Rattle.vd_forest.specs.Forest.{more, nothing};
 ghost use Rattle.vd_known_designs.specs.Designs.{IsReady, Knows};
 ghost use Rattle.vd_least.specs.Least.{least_of};
 ghost use Rattle.vd_meaning.specs.Names.{number_or as number_of};
-ghost use Rattle.vd_meaning.specs.Tables.{role_of as role_in, table};
+ghost use Rattle.vd_meaning.specs.Tables.{is_brought as brought, role_of as role_in, table};
 ghost use Rattle.vd_trees.specs.declared.revision.Revision.{Revision};
 ghost use Rattle.vd_value_rules.specs.Bounds.{argument_of as argument_in, indefinite, indefinite_arguments as arguments_indefinite, is_operator_called as calls_operator, operands_of as operands_refused};
 ghost use Rattle.vd_value_rules.specs.Designs.{Design};
@@ -106,14 +106,31 @@ fn number_or(declaration: Option<DeclId>) -> u32
     }
 }
 
+/// Whether a declaration is an operator that a type brings with it.
+fn is_brought(class: Class) -> bool
+    ensures { result ≡ brought class }
+{
+    matches!(class, Class::PredefinedOperator)
+}
+
+/// Whether what has this role and is brought or isn't is an operator that is called.
+fn called_by(role: Role, is_brought: bool) -> bool
+    ensures { result ≡ called_as (read_role role) is_brought }
+{
+    match role {
+        Role::Function => is_brought,
+        _ => false,
+    }
+}
+
 /// Whether a list in brackets has the operands of an operator.
 fn is_operator_called(declarations: &[Declaration], node: Resolved) -> bool
     ensures { (d : Design) (revision : Revision) → d.table ≡ table revision declarations.now
         → result ≡ calls_operator (role_in d.table node.declaration) d (number_of node.declaration) }
 {
     let number = followed(declarations, number_or(node.declaration));
-    matches!(role_of(declarations, node.declaration), Role::Function)
-        && matches!(class_of(declarations, number), Class::PredefinedOperator)
+    let role = role_of(declarations, node.declaration);
+    called_by(role, is_brought(class_of(declarations, number)))
 }
 
 /// The operands of a call in brackets.
