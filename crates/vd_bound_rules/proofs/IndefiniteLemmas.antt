@@ -1,5 +1,5 @@
 -- Operands, one after the other, by what each of them is refused for.
-use Rattle.std.proofs.Common.{◌≡◌, ◌++◌, Bool, List, [], refl, suc, zero, ℕ}
+use Rattle.std.proofs.Common.{◌≡◌, ◌++◌, Bool, List, [], refl, suc, ℕ}
 use Rattle.vd_bytes.specs.declared.answers.Refused.{Refused}
 use Rattle.vd_bytes.specs.declared.places.Place.{Place}
 use Rattle.vd_forest.specs.Forest.{Forest, more, nothing}

@@ -6,7 +6,7 @@ use Rattle.vd_composites.specs.Ranges.{length_of}
 use Rattle.vd_composites.specs.declared.ranges.Bounds.{Bounds}
 use Rattle.vd_environments.specs.Environments.{Env}
 use Rattle.vd_environments.specs.Got.{Got}
-use Rattle.vd_forest.specs.Forest.{Forest, more, nothing}
+use Rattle.vd_forest.specs.Forest.{Forest, more}
 use Rattle.vd_given_choices.specs.Choices.{AreChoices}
 use Rattle.vd_given_choices.specs.declared.choices.Choice.{Choice}
 use Rattle.vd_meaning.specs.Brackets.{is_positional, positional_count}

@@ -1,5 +1,5 @@
 -- Operands, one after the other.
-use Rattle.std.proofs.Common.{◌≡◌, ◌++◌, ◌∙◌, Bool, List, Option, [], ap, ap₂, refl, sym, ℕ}
+use Rattle.std.proofs.Common.{◌≡◌, ◌++◌, ◌∙◌, Bool, List, Option, ap, ap₂, refl, sym, ℕ}
 use Rattle.std.proofs.lemmas.List.{append-nil}
 use Rattle.vd_bound_rules.proofs.IndefiniteLemmas.{differing, differing_is, first_alone, first_differs, first_is, no_more, none_differing, one_more}
 use Rattle.vd_bytes.specs.declared.answers.Refused.{Refused}
@@ -69,8 +69,8 @@ module _ (d : Design) (s : State) where
       let here = differing 1 d s (argument_of n.form (more n text place parts nothing) parts) in
       let behind = indefinite_arguments d s next in
       let own_is : own ≡ least_of here =
-          one ∙ ap least_of (sym (differing_is d s 1 argument)) ∙ ap (λ g. least_of (differing 1 d s g)) (argues ∙ ap (λ g. argument_of n.form g parts) is)
-          ∙ ap least_of (argument_by n.form (differing 1 d s) (more n text place parts next) (more n text place parts nothing) parts (same_alone n text place parts next)) in
+      one ∙ ap least_of (sym (differing_is d s 1 argument)) ∙ ap (λ g. least_of (differing 1 d s g)) (argues ∙ ap (λ g. argument_of n.form g parts) is)
+      ∙ ap least_of (argument_by n.form (differing 1 d s) (more n text place parts next) (more n text place parts nothing) parts (same_alone n text place parts next)) in
       so ∙ ap (λ g. lesser found (least_of (indefinite_arguments d s g))) is
       ∙ ap (lesser found) (ap least_of (arguments_more n text place parts next) ∙ least_of_append here behind ∙ ap (λ o. lesser o (least_of behind)) (sym own_is))
       ∙ sym (lesser_brackets found own (least_of behind))

@@ -1,6 +1,5 @@
 -- Something is known behind calls that keep what is known.
-use Rattle.std.proofs.Common.{◌∷◌, Err, List, Ok}
-use Rattle.std.specs.Prelude.{OnOk, Result}
+use Rattle.std.proofs.Common.{◌∷◌, List}
 use Rattle.vd_known_designs.specs.Designs.{IsReady, Knows}
 use Rattle.vd_known_designs.specs.declared.design.KnownDesign.{KnownDesign}
 use Rattle.vd_value_rules.specs.Designs.{Design}

@@ -1,7 +1,6 @@
 -- Refusals of this group, which are none of names.
-use Rattle.std.proofs.Common.{◌≡◌, ◌++◌, ◌&&◌, ◌∷◌, ◌∙◌, Bool, List, None, Option, Some, [], ap, ap₂, false, if◌then◌else◌, refl, suc, sym, true, zero, ℕ}
+use Rattle.std.proofs.Common.{◌≡◌, ◌++◌, ◌&&◌, ◌∙◌, Bool, List, None, Option, Some, [], ap, ap₂, false, if◌then◌else◌, refl, suc, sym, true, zero, ℕ}
 use Rattle.std.proofs.lemmas.List.Elements.{filter-append}
-use Rattle.std.proofs.lemmas.List.{append-nil}
 use Rattle.std.specs.List.{filter}
 use Rattle.vd_bound_rules.proofs.IndefiniteLemmas.{differing, differing_is, first_differs, no_more, none_differing, one_more}
 use Rattle.vd_bound_rules.proofs.SortLemmas.{operands_by_sort, unconstrained_by_sort}
@@ -10,11 +9,8 @@ use Rattle.vd_bound_rules.specs.declared.sorts.Operands.{Operands}
 use Rattle.vd_bound_rules.specs.declared.sorts.Operands.TheVariants as operands
 use Rattle.vd_bytes.specs.declared.answers.Refused.{Refused}
 use Rattle.vd_bytes.specs.declared.places.Place.{Place}
-use Rattle.vd_forest.specs.Forest.{Forest, more, next_of, nothing, skipped}
-use Rattle.vd_forms.specs.declared.form.Form.{Form}
-use Rattle.vd_forms.specs.declared.form.Form.TheVariants as form
+use Rattle.vd_forest.specs.Forest.{Forest, more, nothing, skipped}
 use Rattle.vd_least.proofs.LeastLaws.{least_of_append}
-use Rattle.vd_least.proofs.OrderLaws.{lesser_brackets}
 use Rattle.vd_least.specs.Least.{least_of, lesser}
 use Rattle.vd_meaning.specs.Names.{number_or}
 use Rattle.vd_meaning.specs.Tables.{role_of}
@@ -23,10 +19,9 @@ use Rattle.vd_rule_groups.proofs.FirstLemmas.{all_others}
 use Rattle.vd_rule_groups.specs.Groups.{firsts_of}
 use Rattle.vd_rule_groups.specs.declared.firsts.Firsts.{Firsts}
 use Rattle.vd_trees.specs.declared.revision.Revision.{Revision}
-use Rattle.vd_value_rules.specs.Bounds.{argument_of, broken_bounds, has_no_bounds, indefinite, indefinite_arguments, is_indefinite, is_operator_called, operands_of, unconstrained}
+use Rattle.vd_value_rules.specs.Bounds.{argument_of, broken_bounds, has_no_bounds, indefinite, indefinite_arguments, is_operator_called, operands_of, unconstrained}
 use Rattle.vd_value_rules.specs.Designs.{Design, is_2019}
 use Rattle.vd_value_rules.specs.Judging.{refused_if}
-use Rattle.vd_value_rules.specs.Lengths.{shapings}
 use Rattle.vd_value_rules.specs.Rules.{is_of_names}
 use Rattle.vd_value_rules.specs.Standings.{State, is_copied_here}
 
@@ -93,8 +88,8 @@ module _ (d : Design) (s : State) where
       let all = broken_bounds d s n place parts in
       let names = bounds_of_rules n place parts in
       let b' : b ≡ least_of (if is_2019 d.revision && is_copied_here s then operands_of n.form d s n parts else []) =
-          other ∙ ap (λ q. least_of (if is_2019 q && copied then operands_of n.form d s n parts else [])) revision
-          ∙ ap (λ c. least_of (if is_2019 d.revision && c then operands_of n.form d s n parts else [])) (sym is) in
+      other ∙ ap (λ q. least_of (if is_2019 q && copied then operands_of n.form d s n parts else [])) revision
+      ∙ ap (λ c. least_of (if is_2019 d.revision && c then operands_of n.form d s n parts else [])) (sym is) in
       let both : lesser a b ≡ least_of all = ap₂ lesser one b' ∙ sym (least_of_append (unconstrained n.form d s place parts)
-          (if is_2019 d.revision && is_copied_here s then operands_of n.form d s n parts else [])) in
+      (if is_2019 d.revision && is_copied_here s then operands_of n.form d s n parts else [])) in
       ap₂ (λ (x y : Option Refused). let f : Firsts = record { of_names = x; of_rules = y } in f) (sym (ap least_of names)) (both ∙ sym (ap least_of (all_others is_of_names all names)))

@@ -1,5 +1,5 @@
 -- Forms by their sorts.
-use Rattle.std.proofs.Common.{◌≡◌, ◌≢◌, ◌∙◌, Bool, Option, Some, ap, sym, List, if◌then◌else◌, refl, ℕ}
+use Rattle.std.proofs.Common.{◌≡◌, ◌≢◌, ◌∙◌, Bool, Option, Some, ap, sym, if◌then◌else◌, refl, ℕ}
 use Rattle.vd_bound_rules.specs.Sorts.{called_as, indication_of, number_in, operands_as, operands_in, place_in, unconstrained_at}
 use Rattle.vd_bound_rules.specs.declared.sorts.Indication.{Indication}
 use Rattle.vd_bound_rules.specs.declared.sorts.Operands.TheVariants.{NoPart, TwoParts}

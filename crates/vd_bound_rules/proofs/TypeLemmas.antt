@@ -1,17 +1,14 @@
 -- Types with bounds.
-use Rattle.std.proofs.Common.{◌≡◌, ◌&&◌, ◌∙◌, Bool, List, None, Option, Some, ap, ap₂, false, is_some, not, refl, subst, sym, true, ℕ}
+use Rattle.std.proofs.Common.{◌≡◌, ◌&&◌, ◌∙◌, Bool, None, Option, Some, ap, ap₂, false, is_some, not, refl, sym, true, ℕ}
 use Rattle.vd_bound_rules.specs.Written.{IsTypeLength}
 use Rattle.vd_bound_rules.specs.declared.written.TypeLength.{TypeLength}
 use Rattle.vd_composites.specs.Subtypes.{Arrays, Records, Scalars, Subtype}
 use Rattle.vd_composites.specs.declared.ranges.Bounds.{Bounds}
-use Rattle.vd_environments.specs.Environments.{Env, Indicated, or_senseless}
-use Rattle.vd_forest.specs.Forest.{Forest}
-use Rattle.vd_indicated.specs.declared.forms.IndicatedForm.{IndicatedForm}
+use Rattle.vd_environments.specs.Environments.{Indicated, or_senseless}
 use Rattle.vd_meaning.specs.Declarations.{has_bounds}
 use Rattle.vd_meaning.specs.Names.{bounds_of_subtype}
 use Rattle.vd_value_rules.specs.Bounds.{NotAsked, WithLength, Written, differs_from_type, same_length}
 use Rattle.vd_value_rules.specs.Choices.{is_array}
-use Rattle.vd_value_rules.specs.Knowledge.{at_mark}
 use Rattle.vd_value_rules.specs.Lengths.{static_length}
 use Rattle.vd_value_rules.specs.Standings.{is_bounded_indicated}
 

@@ -67,13 +67,7 @@ pub fn bound_refusals(
     ensures knows { (d : Design) (ks : List Known) → Knows d design.old ks → OnOk result (Knows d design.new ks) }
 {
     let declared = unconstrained(design, alloc, node)?;
-    let written = copied_operands(
-        design,
-        alloc,
-        interfaces.revision(),
-        around.is_copied,
-        node,
-    )?;
+    let written = copied_operands(design, alloc, interfaces.revision(), around.is_copied, node)?;
     Ok(Firsts {
         of_names: None,
         of_rules: lesser(declared, written),

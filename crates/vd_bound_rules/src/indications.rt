@@ -34,9 +34,7 @@ fn has_no_bounds(
     ensures knows { (d : Design) (ks : List Known) → Knows d design.old ks → OnOk result (Knows d design.new ks) }
 {
     let indicated = indicated_twice(design, alloc, &parts.skip(number).parts())?;
-    Ok(!has_bounds(
-        &design.table.subtypes.store().cursor(indicated.own),
-    ))
+    Ok(!has_bounds(&design.table.subtypes.store().cursor(indicated.own)))
 }
 
 /// Where the first tree stands.

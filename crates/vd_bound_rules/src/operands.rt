@@ -65,7 +65,10 @@ fn two_operands(
 }
 
 /// An argument of a call, which stands alone or behind `=>`.
-fn argument_of<'a>(tree: &Cursor<'a, Resolved>, first: &Opened<'a, Resolved>) -> Cursor<'a, Resolved>
+fn argument_of<'a>(
+    tree: &Cursor<'a, Resolved>,
+    first: &Opened<'a, Resolved>,
+) -> Cursor<'a, Resolved>
     ensures { result ≡ argument_in first.now.form.form tree.now first.now.parts }
 {
     match first.form.form {

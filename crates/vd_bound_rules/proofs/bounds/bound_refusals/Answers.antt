@@ -6,9 +6,8 @@ use Rattle.vd_bytes.specs.declared.answers.Refused.{Refused}
 use Rattle.vd_rule_groups.specs.declared.firsts.Firsts.{Firsts}
 use Rattle.vd_bound_rules.proofs.bounds.bound_refusals.Goals as goal
 
-pub copied_operands-requires-clause-ready : goal.copied_operands-requires-clause-ready
-copied_operands-requires-clause-ready c =
-    still_ready c.args.design.now c.unconstrained.new.design c.requires.ready c.in_ok-declared.ensures.knows
+pub copied_operands-requires : goal.copied_operands-requires
+copied_operands-requires c = record { ready = still_ready c.args.design.now c.unconstrained.new.design c.requires.ready c.in_ok-declared.ensures.knows }
 
 pub returns-clause-finds : goal.returns-clause-finds
 returns-clause-finds c = λ s ks knows around.

@@ -12,5 +12,5 @@ returns c = λ d revision same.
     let role = c.role_of-role.ensures revision ∙ ap (λ t. role_of t c.args.node.declaration) (sym same) in
     let function = c.followed-number.ensures revision ∙ ap (followed (table revision ds)) c.number_or.ensures in
     let brought = c.is_brought.ensures ∙ ap is_brought (c.class_of.ensures ∙ ap (λ n. (slice_index_or ds n no_declaration).class) function
-        ∙ ap (λ t. (t.declared (followed t number)).class) (sym same)) in
+    ∙ ap (λ t. (t.declared (followed t number)).class) (sym same)) in
     c.called_by.ensures ∙ ap₂ called_as role brought ∙ called_is d (role_of d.table c.args.node.declaration) number

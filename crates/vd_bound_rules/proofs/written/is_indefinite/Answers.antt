@@ -1,8 +1,6 @@
 use Rattle.std.proofs.Common.{ap, ◌∙◌}
-use Rattle.vd_bound_rules.proofs.TypeLemmas.{no_bounds_differ}
-use Rattle.vd_value_rules.specs.Bounds.{differs_from_type, written_of}
+use Rattle.vd_value_rules.specs.Bounds.{differs_from_type}
 use Rattle.vd_value_rules.specs.Knowledge.{at_mark}
-use Rattle.vd_value_rules.specs.Lengths.{nth_shaping, shapings}
 use Rattle.vd_bound_rules.proofs.written.is_indefinite.Goals as goal
 
 pub returns-clause-is : goal.returns-clause-is

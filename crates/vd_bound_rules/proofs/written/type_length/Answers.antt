@@ -1,4 +1,4 @@
-use Rattle.std.proofs.Common.{ap, length, subst, sym, ◌≤◌, ◌≡◌, ◌∙◌}
+use Rattle.std.proofs.Common.{ap, length, subst, sym, ◌≤◌, ◌∙◌}
 use Rattle.vd_bound_rules.specs.Written.{IsTypeLength}
 use Rattle.vd_forest.specs.Store.{at}
 use Rattle.vd_indicated.specs.Indicated.{indicated_in}
