@@ -24,7 +24,7 @@ pub(crate) fn joined(
 }
 
 /// The sum of two lengths that are known.
-pub(crate) fn sum(left: Option<u128>, right: Option<u128>) -> Result<Option<u128>, AllocError>
+pub fn sum(left: Option<u128>, right: Option<u128>) -> Result<Option<u128>, AllocError>
     ensures { IfOk result (λ n. plus_length left right ≡ n) }
 {
     let (Some(left), Some(right)) = (left, right) else {

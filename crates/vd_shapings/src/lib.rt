@@ -5,7 +5,7 @@ mod arguments;
 mod declared;
 mod extents;
 mod kinds;
-mod lengths;
+pub mod lengths;
 mod measuring;
 mod names;
 pub mod operands;

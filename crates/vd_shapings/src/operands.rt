@@ -59,7 +59,7 @@ pub fn mark_of(trees: &Cursor<'_, Resolved>) -> Option<TypeId>
 }
 
 /// Whether the first tree, as an element in brackets, stands for itself alone.
-fn is_positional(trees: &Cursor<'_, Resolved>) -> bool
+pub fn is_positional(trees: &Cursor<'_, Resolved>) -> bool
     ensures { (t : Table) → result ≡ positional (nth 0 (meanings t trees.now)).association }
 {
     let mut rest = trees.fork();
