@@ -2,5 +2,6 @@
 #![tactic(auto)]
 
 pub mod choices;
+mod scalars;
 
 pub use choices::choice_refusals;

@@ -7,7 +7,7 @@ use Rattle.vd_bytes.specs.declared.places.Place.{Place}
 use Rattle.vd_environments.specs.Got.{Got}
 use Rattle.vd_least.specs.Least.{least_of}
 use Rattle.vd_rule_groups.proofs.FirstLemmas.{all_others}
-use Rattle.vd_rule_groups.specs.Groups.{firsts_of, is_of_rules}
+use Rattle.vd_rule_groups.specs.Groups.{firsts_of}
 use Rattle.vd_rule_groups.specs.declared.firsts.Firsts.{Firsts}
 use Rattle.vd_value_rules.specs.Choices.{Given, not_static, repeated, repeats_in, with_got}
 use Rattle.vd_value_rules.specs.Judging.{refused_if}
