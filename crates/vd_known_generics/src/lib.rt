@@ -2,6 +2,10 @@
 //! subprogram and package instantiation declarations)
 #![tactic(auto)]
 
+mod constants;
+mod copies;
+mod generics;
 pub mod instances;
+mod left;
 
 pub use instances::{function_instance_declared, generics_stand, taken};

@@ -11,7 +11,8 @@ use Rattle.vd_meaning.specs.Facets.{MapElement, Meaning}
 use Rattle.vd_meaning.specs.Generics.{taken}
 use Rattle.vd_meaning.specs.Kinds.{kind}
 use Rattle.vd_meaning.specs.Meanings.{actuals_between, made}
-use Rattle.vd_meaning.specs.Names.{number_or}
+use Rattle.vd_meaning.specs.Names.{calls_known, number_or}
+use Rattle.vd_meaning.specs.Operators.{function_of}
 use Rattle.vd_meaning.specs.Tables.{copies_in, followed, is_predefined, pairs}
 use Rattle.vd_resolved.specs.declared.node.Resolved.{Resolved}
 use Rattle.vd_value_rules.specs.Designs.{Design}
@@ -77,10 +78,12 @@ type_stands n a k =
       choosing = with_subtype n a.choosing.indicated.subtype a.choosing.indicated.make k.choosing;
     }
 
+-- a function is what its actual is where the generics in front of it stand for theirs
 abbrev pub function_stands : Design → ℕ → TwoActuals → Known → Known
 function_stands d n a k =
     let actual = followed d.table a.copy in
-    denoted n (function_denoted (result_in d actual k.env) a.own.function a.own.calls) (function_denoted (result_in d actual k.choosing) a.choosing.function never) k
+    denoted n (function_denoted (result_in d actual k.env) (function_of d.table actual k.env) (calls_known d.table actual k.env))
+    (function_denoted (result_in d actual k.choosing) (function_of d.table actual k.choosing) never) k
 
 abbrev pub next_stands : (ℕ → TwoActuals → Known → Known) → ℕ → List TwoActuals → Known → KnownAndLeft
 next_stands f n [] k = record { known = k; left = [] }

@@ -1,0 +1,5 @@
+mod StandingLemmas
+mod ConstantLemmas
+mod CopyLemmas
+mod FunctionLemmas
+mod InstanceLemmas
