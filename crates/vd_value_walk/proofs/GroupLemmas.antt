@@ -1,4 +1,4 @@
--- The first refusals of five groups of rules. No name has a dash, so that a caller can name each in `#[tactic(auto, using(..))]`.
+-- The first refusals of four groups of rules. No name has a dash, so that a caller can name each in `#[tactic(auto, using(..))]`.
 use Rattle.std.proofs.Common.{◌++◌, ◌≡◌, List, ap₂, sym, ◌∙◌, Option}
 use Rattle.vd_bytes.specs.declared.answers.Refused.{Refused}
 use Rattle.vd_rule_groups.proofs.FirstLemmas.{first_of_both}
@@ -14,11 +14,9 @@ firsts_of_both rs qs =
 pub joined_with : (a b : Firsts) (rs qs : List Refused) → a ≡ firsts_of rs → b ≡ firsts_of qs → joined_firsts a b ≡ firsts_of (rs ++ qs)
 joined_with a b rs qs first second = ap₂ joined_firsts first second ∙ sym (firsts_of_both rs qs)
 
-pub five_together : (a b c d e : Firsts) (as' bs cs ds es : List Refused)
-    → a ≡ firsts_of as' → b ≡ firsts_of bs → c ≡ firsts_of cs → d ≡ firsts_of ds → e ≡ firsts_of es
-    → joined_firsts a (joined_firsts b (joined_firsts c (joined_firsts d e))) ≡ firsts_of (as' ++ (bs ++ (cs ++ (ds ++ es))))
-five_together a b c d e as' bs cs ds es is_a is_b is_c is_d is_e =
-    joined_with a (joined_firsts b (joined_firsts c (joined_firsts d e))) as' (bs ++ (cs ++ (ds ++ es))) is_a
-    (joined_with b (joined_firsts c (joined_firsts d e)) bs (cs ++ (ds ++ es)) is_b
-    (joined_with c (joined_firsts d e) cs (ds ++ es) is_c
-    (joined_with d e ds es is_d is_e)))
+pub four_together : (a b c d : Firsts) (as' bs cs ds : List Refused) → a ≡ firsts_of as' → b ≡ firsts_of bs → c ≡ firsts_of cs → d ≡ firsts_of ds
+    → joined_firsts a (joined_firsts b (joined_firsts c d)) ≡ firsts_of (as' ++ (bs ++ (cs ++ ds)))
+four_together a b c d as' bs cs ds is_a is_b is_c is_d =
+    joined_with a (joined_firsts b (joined_firsts c d)) as' (bs ++ (cs ++ ds)) is_a
+    (joined_with b (joined_firsts c d) bs (cs ++ ds) is_b
+    (joined_with c d cs ds is_c is_d))

@@ -8,7 +8,7 @@ use Rattle.vd_known_designs.specs.Designs.{Knows}
 use Rattle.vd_known_designs.specs.declared.design.KnownDesign.{KnownDesign}
 use Rattle.vd_port_modes.specs.Source.{design_in}
 use Rattle.vd_resolved.specs.declared.node.Resolved.{Resolved}
-use Rattle.vd_rule_groups.specs.Groups.{Breaking, aggregates, bounds, choices, firsts_of, judge_by, static_expressions, types}
+use Rattle.vd_rule_groups.specs.Groups.{Breaking, aggregates, bounds, firsts_of, judge_by, static_expressions, types}
 use Rattle.vd_value_rules.specs.Declaring.{declaring, unit_declared_by, units_declared}
 use Rattle.vd_value_rules.specs.Designs.{Design}
 use Rattle.vd_value_rules.specs.Knowledge.{Known}
@@ -17,11 +17,11 @@ use Rattle.vd_value_walk.specs.Levels.{AreLevels}
 use Rattle.vd_value_walk.specs.declared.walking.Walk.{Walk}
 use Rattle.vd_forms.specs.declared.form.Form.TheVariants as form
 
--- what a node breaks of five groups
+-- what a node breaks of four groups
 abbrev pub asked : Breaking
 asked d s n text place parts =
-    choices d s n text place parts ++ (aggregates d s n text place parts ++ (static_expressions d s n text place parts
-    ++ (bounds d s n text place parts ++ types d s n text place parts)))
+    aggregates d s n text place parts ++ (static_expressions d s n text place parts
+    ++ (bounds d s n text place parts ++ types d s n text place parts))
 
 -- the state at a position of a design
 abbrev pub state_here : Design → Position Resolved → State

@@ -11,7 +11,6 @@ ghost use Rattle.vd_value_walk.specs.Walking.{asked};
 use std::alloc::{AllocError, Global};
 use vd_aggregate_rules::aggregate_refusals;
 use vd_bound_rules::bound_refusals;
-use vd_choice_rules::choice_refusals;
 use vd_forest::Opened;
 use vd_known_designs::KnownDesign;
 use vd_known_places::Surroundings;
@@ -33,13 +32,11 @@ pub(crate) fn refusals(
     ensures finds { Finds asked (design_in interfaces.now) design.old around.now node.now result }
     ensures knows { (d : Design) (ks : List Known) → Knows d design.old ks → OnOk result (Knows d design.new ks) }
 {
-    let choices = choice_refusals(design, interfaces, alloc, around, node)?;
     let aggregates = aggregate_refusals(design, interfaces, alloc, around, node)?;
     let statics = static_refusals(design, interfaces, alloc, around, node)?;
     let bounds = bound_refusals(design, interfaces, alloc, around, node)?;
     let types = type_refusals(design, interfaces, alloc, around, node)?;
     let later = together(bounds, types);
     let further = together(statics, later);
-    let others = together(aggregates, further);
-    Ok(together(choices, others))
+    Ok(together(aggregates, further))
 }

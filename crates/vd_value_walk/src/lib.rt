@@ -1,5 +1,5 @@
-//! One walk over a resolved design for the rules that hang on what is known of its declarations: choices, aggregates, static expressions, bounds,
-//! and actuals that are types. (IEEE 1076, static expressions; case statement; aggregates; generic map aspects)
+//! One walk over a resolved design for the rules that hang on what is known of its declarations: aggregates, static expressions, bounds, and
+//! actuals that are types. (IEEE 1076, aggregates; static expressions; generic map aspects)
 #![tactic(auto)]
 
 mod groups;

@@ -172,7 +172,7 @@ impl<'a, 'i, 't> Following<'a, Resolved> for Walk<'a, 'i, 't> {
     }
 }
 
-/// The least refusals of the rules on choices, aggregates, static expressions, bounds, and actuals that are types.
+/// The least refusals of the rules on aggregates, static expressions, bounds, and actuals that are types.
 pub fn value_refusals(alloc: Global, revision: Revision, tree: &Tree) -> Result<Firsts, AllocError>
     ensures { IfOk result (λ found. found ≡ firsts_by asked revision tree.now) }
 {
