@@ -2,7 +2,7 @@
 
 ghost use Rattle.std.specs.Prelude.{◌≡◌, ◌∷◌, IfOk, List, OnOk};
 ghost use Rattle.vd_known_designs.specs.Designs.{IsReady, Knows};
-ghost use Rattle.vd_known_places.specs.Places.{Finds};
+ghost use Rattle.vd_known_indications.specs.Places.{Finds};
 ghost use Rattle.vd_least.specs.Least.{least_of};
 ghost use Rattle.vd_port_modes.specs.Source.{design_in};
 ghost use Rattle.vd_rule_groups.specs.Groups.{aggregates};
@@ -22,7 +22,7 @@ use vd_forest::{Cursor, Opened};
 use vd_forms::Form;
 use vd_indicated::subtypes::has_bounds;
 use vd_known_designs::KnownDesign;
-use vd_known_places::Surroundings;
+use vd_known_indications::Surroundings;
 use vd_operations::tables::{class_of, parameters_of};
 use vd_port_modes::Interfaces;
 use vd_resolved::Resolved;

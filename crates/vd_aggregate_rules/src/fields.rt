@@ -18,7 +18,7 @@ use vd_bytes::{Place, Refused};
 use vd_forest::{Cursor, Opened};
 use vd_forms::Form;
 use vd_known_designs::KnownDesign;
-use vd_known_places::node;
+use vd_known_indications::node;
 use vd_least::lesser;
 use vd_resolved::Resolved;
 use vd_rule_groups::refused_if;

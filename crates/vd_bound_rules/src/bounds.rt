@@ -2,7 +2,7 @@
 
 ghost use Rattle.std.specs.Prelude.{◌≡◌, ◌∷◌, ◌&&◌, [], if◌then◌else◌, IfOk, List, OnOk};
 ghost use Rattle.vd_known_designs.specs.Designs.{IsReady, Knows};
-ghost use Rattle.vd_known_places.specs.Places.{Finds};
+ghost use Rattle.vd_known_indications.specs.Places.{Finds};
 ghost use Rattle.vd_least.specs.Least.{least_of};
 ghost use Rattle.vd_port_modes.specs.Source.{design_in};
 ghost use Rattle.vd_rule_groups.specs.Groups.{bounds};
@@ -17,7 +17,7 @@ use std::alloc::{AllocError, Global};
 use vd_bytes::Refused;
 use vd_forest::Opened;
 use vd_known_designs::KnownDesign;
-use vd_known_places::Surroundings;
+use vd_known_indications::Surroundings;
 use vd_least::lesser;
 use vd_port_modes::Interfaces;
 use vd_resolved::Resolved;

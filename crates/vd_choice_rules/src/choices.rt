@@ -2,7 +2,7 @@
 
 ghost use Rattle.std.specs.Prelude.{List, OnOk};
 ghost use Rattle.vd_known_designs.specs.Designs.{IsReady, Knows};
-ghost use Rattle.vd_known_places.specs.Places.{Finds};
+ghost use Rattle.vd_known_indications.specs.Places.{Finds};
 ghost use Rattle.vd_port_modes.specs.Source.{design_in};
 ghost use Rattle.vd_rule_groups.specs.Groups.{choices};
 ghost use Rattle.vd_value_rules.specs.Designs.{Design};
@@ -11,7 +11,7 @@ ghost use Rattle.vd_value_rules.specs.Knowledge.{Known};
 use std::alloc::{AllocError, Global};
 use vd_forest::Opened;
 use vd_known_designs::KnownDesign;
-use vd_known_places::Surroundings;
+use vd_known_indications::Surroundings;
 use vd_port_modes::Interfaces;
 use vd_resolved::Resolved;
 use vd_rule_groups::Firsts;

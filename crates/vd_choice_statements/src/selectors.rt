@@ -20,7 +20,7 @@ use vd_facets::{Role, role_of};
 use vd_forest::{Cursor, Opened};
 use vd_forms::Form;
 use vd_known_designs::KnownDesign;
-use vd_known_places::node;
+use vd_known_indications::node;
 use vd_operations::{Sort, sort_of};
 use vd_resolved::Resolved;
 use vd_static_entries::Node;

@@ -18,7 +18,7 @@ use vd_forest::{Cursor, Opened};
 use vd_forms::Form;
 use vd_given_choices::{Choice, place_of};
 use vd_known_designs::KnownDesign;
-use vd_known_places::Surroundings;
+use vd_known_indications::Surroundings;
 use vd_resolved::Resolved;
 use vd_shapings::{Shape, shape_of};
 use vd_trees::Revision;

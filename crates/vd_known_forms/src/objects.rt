@@ -20,7 +20,7 @@ use vd_known_designs::{KnownDesign, TwoSubtypes};
 use vd_known_indications::indicated_twice;
 use vd_known_objects::constants::{constants, early_value};
 use vd_known_objects::objects::{later_objects, signals};
-use vd_known_places::node;
+use vd_known_indications::node;
 use vd_port_modes::Interfaces;
 use vd_resolved::Resolved;
 

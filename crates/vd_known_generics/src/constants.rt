@@ -27,7 +27,7 @@ use vd_known_actuals::Actual;
 use vd_known_designs::{KnownDesign, TwoSubtypes};
 use vd_known_indications::indicated_twice;
 use vd_known_objects::constants::{constants, early_value};
-use vd_known_places::node;
+use vd_known_indications::node;
 use vd_resolved::Resolved;
 
 /// A constant whose actual or default is so static and has this value.

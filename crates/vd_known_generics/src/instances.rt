@@ -7,7 +7,7 @@ ghost use Rattle.vd_forest.specs.Store.{Extends};
 ghost use Rattle.vd_known_designs.specs.Designs.{AreIndicated, IsReady, Knows};
 ghost use Rattle.vd_known_generics.specs.Inside.{IsInside, inside_of};
 ghost use Rattle.vd_known_generics.specs.Standing.{called_stands};
-ghost use Rattle.vd_known_places.specs.Places.{IsRemembering};
+ghost use Rattle.vd_known_indications.specs.Places.{IsRemembering};
 ghost use Rattle.vd_known_tables.specs.Contents.{or_nothing};
 ghost use Rattle.vd_meaning.specs.Meanings.{map_element, meanings};
 ghost use Rattle.vd_meaning.specs.Names.{number_or};

@@ -3,8 +3,9 @@
 ghost use Rattle.std.specs.Prelude.{◌≡◌, ◌∷◌, IfOk, List};
 ghost use Rattle.std.specs.List.{All};
 ghost use Rattle.vd_known_designs.specs.Designs.{IsReady, Knows};
+ghost use Rattle.vd_meaning.specs.Facets.{nth};
 ghost use Rattle.vd_meaning.specs.Meanings.{meanings};
-ghost use Rattle.vd_static_entries.specs.Nodes.{AreNodes};
+ghost use Rattle.vd_static_entries.specs.Nodes.{AreNodes, IsNode};
 ghost use Rattle.vd_static_parts.specs.Made.{IsSound};
 ghost use Rattle.vd_value_rules.specs.Designs.{Design};
 ghost use Rattle.vd_value_rules.specs.Knowledge.{Known};
@@ -14,7 +15,7 @@ use vd_forest::Cursor;
 use vd_known_designs::KnownDesign;
 use vd_resolved::Resolved;
 use vd_static_entries::Node;
-use vd_static_expressions::known_nodes;
+use vd_static_expressions::{known_node, known_nodes};
 
 /// What the trees of a forest come to.
 pub fn nodes<'b>(
@@ -31,4 +32,21 @@ pub fn nodes<'b>(
 {
     let ground = design.table.ground(design.revision, design.declarations);
     known_nodes(alloc, &ground, &mut design.fields, trees)
+}
+
+/// What the first tree of a forest comes to.
+pub fn node<'b>(
+    design: &mut KnownDesign<'_, '_>,
+    alloc: Global,
+    tree: &Cursor<'b, Resolved>,
+) -> Result<Node<'b>, AllocError>
+    requires ready { IsReady design.old }
+    ensures node { (d : Design) (k : Known) (ks : List Known) → Knows d design.old (k ∷ ks)
+        → IfOk result (λ x. IsNode design.old.table.subtypes k.env x (nth 0 (meanings d.table tree.now))) }
+    ensures sound { IfOk result (IsSound design.old.table.subtypes) }
+    ensures knows { (d : Design) (ks : List Known) → Knows d design.old ks → Knows d design.new ks }
+    ensures subtypes { design.new.table.subtypes ≡ design.old.table.subtypes }
+{
+    let ground = design.table.ground(design.revision, design.declarations);
+    known_node(alloc, &ground, &mut design.fields, tree)
 }

@@ -4,6 +4,8 @@
 
 pub mod evaluating;
 pub mod indications;
+pub mod surroundings;
 
-pub use evaluating::nodes;
+pub use evaluating::{node, nodes};
 pub use indications::indicated_twice;
+pub use surroundings::Surroundings;

@@ -1,2 +1,3 @@
-mod CopyLemmas
-mod InstanceLemmas
+mod StateLemmas
+mod WalkLemmas
+mod KindLemmas

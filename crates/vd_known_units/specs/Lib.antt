@@ -1,2 +1,2 @@
-pub mod Copies
-pub mod Units
+pub mod Kinds
+pub mod Walking

@@ -2,7 +2,11 @@
 #![tactic(auto)]
 
 mod copies;
+pub mod declarations;
 mod instances;
+pub mod kinds;
+pub mod states;
 pub mod units;
+pub mod walking;
 
 pub use units::{unit_declared, units_declared};

@@ -2,7 +2,7 @@
 
 ghost use Rattle.std.specs.Prelude.{◌≡◌, ◌∷◌, List, OnOk};
 ghost use Rattle.vd_known_designs.specs.Designs.{IsReady, Knows};
-ghost use Rattle.vd_known_places.specs.Places.{IsRemembering};
+ghost use Rattle.vd_known_indications.specs.Places.{IsRemembering};
 ghost use Rattle.vd_known_units.specs.Units.{is_instance as is_package_instance};
 ghost use Rattle.vd_port_modes.specs.Source.{design_in};
 ghost use Rattle.vd_value_rules.specs.Declaring.{declaring, unit_declared_by, units_declared as all_declared};
@@ -12,9 +12,9 @@ use crate::instances::instance_declared;
 use std::alloc::{AllocError, Global};
 use vd_forest::Cursor;
 use vd_forms::Form;
-use vd_known_declaring::declarations::node_declared;
-use vd_known_declaring::states::back;
-use vd_known_declaring::{Declares, declare_all};
+use crate::declarations::node_declared;
+use crate::states::back;
+use crate::walking::{Declares, declare_all};
 use vd_known_designs::KnownDesign;
 use vd_port_modes::Interfaces;
 use vd_resolved::Resolved;

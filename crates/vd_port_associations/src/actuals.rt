@@ -22,7 +22,7 @@ use vd_facets::Role;
 use vd_forest::Cursor;
 use vd_forms::Form;
 use vd_known_designs::KnownDesign;
-use vd_known_places::node;
+use vd_known_indications::node;
 use vd_port_modes::{Interfaces, Reached, is_signal_name, reached_by};
 use vd_resolved::Resolved;
 use vd_static_entries::KnownName;

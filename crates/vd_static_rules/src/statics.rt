@@ -6,7 +6,7 @@ ghost use Rattle.vd_environments.specs.Environments.{is_static as known_in_elabo
 ghost use Rattle.vd_forms.specs.declared.form.Form.TheVariants.{PackageInstantiation};
 ghost use Rattle.vd_indicated.specs.Indicated.{static_of};
 ghost use Rattle.vd_known_designs.specs.Designs.{IsReady, Knows};
-ghost use Rattle.vd_known_places.specs.Places.{Finds};
+ghost use Rattle.vd_known_indications.specs.Places.{Finds};
 ghost use Rattle.vd_least.specs.Least.{least_of};
 ghost use Rattle.vd_meaning.specs.Facets.{nth};
 ghost use Rattle.vd_meaning.specs.Meanings.{meanings};
@@ -30,7 +30,7 @@ use vd_forest::{Cursor, Opened};
 use vd_forms::Form;
 use vd_indicated::StaticSort;
 use vd_known_designs::KnownDesign;
-use vd_known_places::{Surroundings, node};
+use vd_known_indications::{Surroundings, node};
 use vd_least::lesser;
 use vd_operations::class_of;
 use vd_port_modes::Interfaces;

@@ -4,7 +4,7 @@ ghost use Rattle.std.specs.Prelude.{◌≡◌, ◌∷◌, IfOk, List, OnOk, Some
 ghost use Rattle.std.specs.HashMap.{get};
 ghost use Rattle.vd_elaboration.specs.Elaborations.{copied};
 ghost use Rattle.vd_known_designs.specs.Designs.{IsReady, Knows};
-ghost use Rattle.vd_known_places.specs.Places.{Finds};
+ghost use Rattle.vd_known_indications.specs.Places.{Finds};
 ghost use Rattle.vd_least.specs.Least.{least_of};
 ghost use Rattle.vd_meaning.specs.Names.{number_or};
 ghost use Rattle.vd_port_modes.specs.Source.{design_in};
@@ -25,7 +25,7 @@ use vd_forms::Form;
 use vd_indicated::subtypes::has_bounds;
 use vd_known_actuals::{actual_mark, generics_of};
 use vd_known_designs::KnownDesign;
-use vd_known_places::Surroundings;
+use vd_known_indications::Surroundings;
 use vd_least::lesser;
 use vd_operations::{class_of, mark_of};
 use vd_port_modes::Interfaces;

@@ -2,7 +2,7 @@
 
 ghost use Rattle.std.specs.Prelude.{◌∷◌, List, OnOk};
 ghost use Rattle.vd_known_designs.specs.Designs.{IsReady, Knows};
-ghost use Rattle.vd_known_places.specs.Places.{Finds};
+ghost use Rattle.vd_known_indications.specs.Places.{Finds};
 ghost use Rattle.vd_port_modes.specs.Source.{design_in};
 ghost use Rattle.vd_value_rules.specs.Designs.{Design};
 ghost use Rattle.vd_value_rules.specs.Knowledge.{Known};
@@ -13,7 +13,7 @@ use vd_aggregate_rules::aggregate_refusals;
 use vd_bound_rules::bound_refusals;
 use vd_forest::Opened;
 use vd_known_designs::KnownDesign;
-use vd_known_places::Surroundings;
+use vd_known_indications::Surroundings;
 use vd_port_modes::Interfaces;
 use vd_resolved::Resolved;
 use vd_rule_groups::{Firsts, together};

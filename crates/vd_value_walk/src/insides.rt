@@ -20,7 +20,7 @@ use vd_forms::Form;
 use vd_indicated::StaticSort;
 use vd_known_designs::KnownDesign;
 use vd_known_objects::objects::later_objects;
-use vd_known_places::node;
+use vd_known_indications::node;
 use vd_operations::tables::class_of;
 use vd_port_modes::Interfaces;
 use vd_resolved::Resolved;

@@ -1,14 +1,14 @@
 //! What a place is to the node above it, and what surrounds it.
 
 ghost use Rattle.std.specs.Prelude.{◌≡◌, ◌||◌, drop};
-ghost use Rattle.vd_known_places.specs.Places.{IsAround};
+ghost use Rattle.vd_known_indications.specs.Places.{IsAround};
 ghost use Rattle.vd_standings.specs.Standing.{standing_of, standings_in};
 ghost use Rattle.vd_value_rules.specs.Designs.{Design};
 ghost use Rattle.vd_value_rules.specs.Standings.{State, further_standings, standing as standing_in};
 ghost use Rattle.vd_value_walk.specs.Levels.{IsBehind, IsLevel};
 
 use vd_bytes::Place;
-use vd_known_places::Surroundings;
+use vd_known_indications::Surroundings;
 use vd_standings::Standing;
 use vd_standings::lists::is_bounded;
 

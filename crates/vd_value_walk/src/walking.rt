@@ -4,7 +4,7 @@ ghost use Rattle.std.specs.Prelude.{◌≡◌, ◌++◌, ◌∷◌, IfOk, List, 
 ghost use Rattle.vd_bytes.specs.declared.answers.Refused.{Refused};
 ghost use Rattle.vd_following.specs.Positions.{Along, Down, IsAtEnd, IsAtPlace, Position, passed, tree_of};
 ghost use Rattle.vd_known_designs.specs.Designs.{IsReady, Knows};
-ghost use Rattle.vd_known_places.specs.Places.{IsRemembering};
+ghost use Rattle.vd_known_indications.specs.Places.{IsRemembering};
 ghost use Rattle.vd_port_modes.specs.Source.{design_in};
 ghost use Rattle.vd_rule_groups.specs.Groups.{firsts_by, firsts_of};
 ghost use Rattle.vd_value_rules.specs.Declaring.{declaring, unit_declared_by, units_declared as all_declared};

@@ -1,3 +1,0 @@
-mod StateLemmas
-mod WalkLemmas
-mod KindLemmas
