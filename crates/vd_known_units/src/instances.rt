@@ -11,12 +11,12 @@ ghost use Rattle.vd_value_rules.specs.Designs.{Design};
 ghost use Rattle.vd_value_rules.specs.Knowledge.{Known, parts_at};
 
 use crate::copies::copies_in;
+use crate::declarations::declared;
+use crate::states::remember;
 use std::alloc::{AllocError, Global};
 use vd_declarations::DeclId;
 use vd_facets::{declaration_of, elements_of, number_made};
 use vd_forest::Cursor;
-use crate::declarations::declared;
-use crate::states::remember;
 use vd_known_designs::KnownDesign;
 use vd_known_generics::{generics_stand, taken};
 use vd_port_modes::Interfaces;

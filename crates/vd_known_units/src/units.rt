@@ -8,13 +8,13 @@ ghost use Rattle.vd_port_modes.specs.Source.{design_in};
 ghost use Rattle.vd_value_rules.specs.Declaring.{declaring, unit_declared_by, units_declared as all_declared};
 ghost use Rattle.vd_value_rules.specs.Knowledge.{Known};
 
+use crate::declarations::node_declared;
 use crate::instances::instance_declared;
+use crate::states::back;
+use crate::walking::{Declares, declare_all};
 use std::alloc::{AllocError, Global};
 use vd_forest::Cursor;
 use vd_forms::Form;
-use crate::declarations::node_declared;
-use crate::states::back;
-use crate::walking::{Declares, declare_all};
 use vd_known_designs::KnownDesign;
 use vd_port_modes::Interfaces;
 use vd_resolved::Resolved;

@@ -14,18 +14,16 @@ use std::alloc::{AllocError, Global};
 use vd_indicated_fields::FieldTable;
 use vd_resolved::Resolved;
 use vd_static_entries::{Ground, Node};
-use vd_static_leaves::{
-    character_literal, number_literal, selection_piece, string_literal, time_literal, word,
+use vd_static_nodes::choices::{any_choice, choice_list};
+use vd_static_nodes::elements::{association, open_actual, others_association};
+use vd_static_nodes::expressions::{brackets, operator};
+use vd_static_nodes::marks::{mark_name, open_index};
+use vd_static_nodes::ranges::{constraint, limits, limits_of_mark};
+use vd_static_nodes::{
+    arguments_piece, attribute_piece, character_literal, number_literal, qualification_piece,
+    range_piece, selection_piece, string_literal, time_literal, whole_name, word,
 };
-use vd_static_lists::choices::{any_choice, choice_list};
-use vd_static_lists::elements::{association, open_actual, others_association};
-use vd_static_lists::expressions::{brackets, operator};
 use vd_static_parts::nodes::{absent, plain};
-use vd_static_pieces::{
-    arguments_piece, attribute_piece, qualification_piece, range_piece, whole_name,
-};
-use vd_static_ranges::marks::{mark_name, open_index};
-use vd_static_ranges::ranges::{constraint, limits, limits_of_mark};
 
 /// A word or a literal.
 fn leaf<'a>(

@@ -1,3 +1,0 @@
-pub mod ChoiceLemmas
-pub mod ElementLemmas
-pub mod OperatorLemmas

@@ -1,0 +1,12 @@
+pub mod FirstLemmas
+pub mod LeafLemmas
+pub mod StringLemmas
+pub mod ChoiceLemmas
+pub mod ElementLemmas
+pub mod OperatorLemmas
+pub mod MarkLemmas
+pub mod RangeLemmas
+pub mod ArgumentLemmas
+pub mod CallLemmas
+pub mod PieceLemmas
+pub mod NameLemmas

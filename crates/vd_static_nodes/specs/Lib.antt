@@ -1,0 +1,5 @@
+pub mod Choices
+pub mod Elements
+pub mod Ranges
+pub mod Arguments
+pub mod Calls

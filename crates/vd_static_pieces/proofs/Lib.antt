@@ -1,4 +1,0 @@
-pub mod ArgumentLemmas
-pub mod CallLemmas
-pub mod PieceLemmas
-pub mod NameLemmas
