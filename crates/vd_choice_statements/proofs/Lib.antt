@@ -1,3 +1,4 @@
 mod AlternativeLemmas
 mod SelectorLemmas
 mod StatementLemmas
+mod ScalarLemmas

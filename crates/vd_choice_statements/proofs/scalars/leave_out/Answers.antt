@@ -1,5 +1,5 @@
-use Rattle.vd_choice_rules.proofs.ScalarLemmas.{not_all_known, value_left}
-use Rattle.vd_choice_rules.proofs.scalars.leave_out.Goals as goal
+use Rattle.vd_choice_statements.proofs.ScalarLemmas.{not_all_known, value_left}
+use Rattle.vd_choice_statements.proofs.scalars.leave_out.Goals as goal
 
 pub returns-then-not-are_all_known : goal.returns-then-not-are_all_known
 returns-then-not-are_all_known c = λ gs are.

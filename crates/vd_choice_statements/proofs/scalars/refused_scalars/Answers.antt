@@ -1,7 +1,7 @@
 use Rattle.std.proofs.Common.{subst, sym}
-use Rattle.vd_choice_rules.proofs.ScalarLemmas.{scalars_refused}
+use Rattle.vd_choice_statements.proofs.ScalarLemmas.{scalars_refused}
 use Rattle.vd_given_choices.specs.Choices.{AreChoices}
-use Rattle.vd_choice_rules.proofs.scalars.refused_scalars.Goals as goal
+use Rattle.vd_choice_statements.proofs.scalars.refused_scalars.Goals as goal
 
 pub returns : goal.returns
 returns c = λ e s is equal.

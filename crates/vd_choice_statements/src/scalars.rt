@@ -8,10 +8,10 @@ ghost use Rattle.vd_least.specs.Least.{least_of};
 ghost use Rattle.vd_meaning.specs.Facets.{ByEquality};
 ghost use Rattle.vd_value_rules.specs.Choices.{Given, Selecting as selectings, are_covered as all_given, early_bounds, leave_out as left_out, scalar_choices};
 
+use crate::statements::Selecting;
 use std::alloc::{AllocError, Global};
 use vd_bytes::Refused;
 use vd_choice_covering::are_covered;
-use vd_choice_statements::Selecting;
 use vd_composites::Bounds;
 use vd_given_choices::{Choice, are_all_known, first_repeated, known_bounds};
 use vd_least::lesser;
@@ -30,17 +30,14 @@ fn leave_out(alloc: Global, choices: &[Choice], taken: Bounds) -> Result<bool, A
 }
 
 /// Whether values are missing that `others` would stand for.
-pub(crate) fn is_lacking(is_left_out: bool, has_others: bool) -> bool
+pub fn is_lacking(is_left_out: bool, has_others: bool) -> bool
     ensures { result ≡ (is_left_out && not has_others) }
 {
     is_left_out && !has_others
 }
 
 /// The first refusal of choices of a scalar selector that is compared by equality.
-pub(crate) fn refused_scalars(
-    alloc: Global,
-    selecting: &Selecting,
-) -> Result<Option<Refused>, AllocError>
+pub fn refused_scalars(alloc: Global, selecting: &Selecting) -> Result<Option<Refused>, AllocError>
     ensures { (e : Env) (s : selectings) → IsSelecting selecting.now s → s.comparison ≡ ByEquality
         → IfOk result (λ found. found ≡ least_of (scalar_choices e s)) }
 {
