@@ -1,3 +1,5 @@
 mod StateLemmas
 mod WalkLemmas
 mod KindLemmas
+mod CopyLemmas
+mod InstanceLemmas

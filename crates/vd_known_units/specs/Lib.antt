@@ -1,2 +1,4 @@
 pub mod Kinds
 pub mod Walking
+pub mod Copies
+pub mod Units
