@@ -17,10 +17,9 @@ use vd_forest::Cursor;
 use vd_function_names::numbers::numbers_of_first;
 use vd_indicated::StaticSort;
 use vd_known_designs::{KnownDesign, TwoSubtypes};
-use vd_known_indications::indicated_twice;
+use vd_known_indications::{indicated_twice, node};
 use vd_known_objects::constants::{constants, early_value};
 use vd_known_objects::objects::{later_objects, signals};
-use vd_known_indications::node;
 use vd_port_modes::Interfaces;
 use vd_resolved::Resolved;
 

@@ -25,9 +25,8 @@ use vd_function_names::numbers::numbers_of_first;
 use vd_indicated::StaticSort;
 use vd_known_actuals::Actual;
 use vd_known_designs::{KnownDesign, TwoSubtypes};
-use vd_known_indications::indicated_twice;
+use vd_known_indications::{indicated_twice, node};
 use vd_known_objects::constants::{constants, early_value};
-use vd_known_indications::node;
 use vd_resolved::Resolved;
 
 /// A constant whose actual or default is so static and has this value.
