@@ -1,7 +1,7 @@
 -- Names as actuals.
 use Rattle.std.proofs.Common.{◌≡◌, ◌∙◌, List, ap, if◌then◌else◌, refl, sym, ℕ}
 use Rattle.std.specs.Prelude.{None, Option, Some}
-use Rattle.core.specs.Option.{option_or}
+use Rattle.std.specs.Option.{option_or}
 use Rattle.vd_bytes.specs.declared.places.Place.{Place}
 use Rattle.vd_environments.specs.Environments.{Env}
 use Rattle.vd_forest.specs.Forest.{Forest, more, nothing}
