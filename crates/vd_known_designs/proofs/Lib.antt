@@ -1,1 +1,2 @@
 pub mod DesignLemmas
+pub mod MarkLemmas

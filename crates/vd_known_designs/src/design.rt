@@ -6,10 +6,10 @@ ghost use Rattle.vd_meaning.specs.Tables.{table as table_of_design};
 ghost use Rattle.vd_value_rules.specs.Designs.{Design};
 ghost use Rattle.vd_value_rules.specs.Knowledge.{nothing_known};
 
+use crate::marks::given_table;
 use std::alloc::{AllocError, Global};
 use vd_declarations::Declaration;
 use vd_indicated_fields::FieldTable;
-use vd_known_given::given_table;
 use vd_known_tables::KnownTable;
 use vd_trees::Revision;
 

@@ -3,6 +3,9 @@
 
 pub mod design;
 pub mod indications;
+mod literals;
+mod marks;
 
 pub use design::KnownDesign;
 pub use indications::TwoSubtypes;
+pub use marks::given_table;

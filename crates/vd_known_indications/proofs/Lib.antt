@@ -1,2 +1,4 @@
 mod IndicationLemmas
 pub mod PlaceLemmas
+mod KindLemmas
+mod TreeLemmas

@@ -1,2 +1,4 @@
 pub mod Constraints
 pub mod Places
+pub mod Found
+pub mod Kinds

@@ -10,12 +10,12 @@ ghost use Rattle.vd_static_parts.specs.Made.{IsSound};
 ghost use Rattle.vd_value_rules.specs.Designs.{Design};
 ghost use Rattle.vd_value_rules.specs.Knowledge.{Known};
 
+use crate::reading::{known_node, known_nodes};
 use std::alloc::{AllocError, Global};
 use vd_forest::Cursor;
 use vd_known_designs::KnownDesign;
 use vd_resolved::Resolved;
 use vd_static_entries::Node;
-use vd_static_expressions::{known_node, known_nodes};
 
 /// What the trees of a forest come to.
 pub fn nodes<'b>(

@@ -24,10 +24,10 @@ use vd_facets::{Role, role_of};
 use vd_forest::Cursor;
 use vd_indicated_fields::FieldTable;
 use vd_known_indications::indications::early_range;
+use vd_known_indications::known_node;
 use vd_resolved::Resolved;
-use vd_static_attributes::named::{NameAttribute, attribute_named};
 use vd_static_entries::{Ranging, Sense};
-use vd_static_expressions::known_node;
+use vd_static_parts::named::{NameAttribute, attribute_named};
 
 /// An index, or a range.
 fn indexed(sense: &Sense<'_>) -> Bracketed

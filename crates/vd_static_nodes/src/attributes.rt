@@ -11,12 +11,12 @@ ghost use Rattle.vd_static_parts.specs.Made.{IsMade, IsSound};
 
 use std::alloc::{AllocError, Global};
 use vd_resolved::Resolved;
-use vd_static_attributes::qualified;
 use vd_static_entries::{Ground, Node, Piece};
 use vd_static_parts::brackets::{bracketed_known, bracketed_value};
 use vd_static_parts::nodes::piece;
 use vd_static_parts::numbers::number_or;
 use vd_static_parts::parts::text_of;
+use vd_static_parts::qualified;
 
 /// An attribute.
 pub fn attribute_piece<'a>(

@@ -17,12 +17,12 @@ use crate::parts::first_name;
 use std::alloc::{AllocError, Global};
 use vd_indicated_fields::FieldTable;
 use vd_resolved::Resolved;
-use vd_static_attributes::{attributed, range_of, type_attribute_piece};
 use vd_static_entries::{Arguments, Bracketed, Ground, KnownName, Node, Piece};
 use vd_static_names::copies::again;
 use vd_static_names::steps::{element, field_by_table, slice};
 use vd_static_names::values::no_name;
 use vd_static_parts::nodes::named;
+use vd_static_parts::{attributed, range_of, type_attribute_piece};
 
 /// A name with a list in brackets: the argument of an attribute of a type, or what the list is by itself.
 fn with_arguments(

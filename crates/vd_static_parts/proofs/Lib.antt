@@ -5,3 +5,6 @@ pub mod MadeLemmas
 pub mod NodeLemmas
 pub mod PartLemmas
 pub mod StaticLemmas
+pub mod BoundLemmas
+pub mod ConversionLemmas
+pub mod TypeLemmas

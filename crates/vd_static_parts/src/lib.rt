@@ -2,9 +2,18 @@
 //! (IEEE 1076, static expressions)
 #![tactic(auto)]
 
+pub mod attributes;
+pub mod bounds;
 pub mod brackets;
 pub mod calls;
+pub mod conversions;
 pub mod copies;
+pub mod named;
 pub mod nodes;
 pub mod numbers;
 pub mod parts;
+pub mod types;
+
+pub use attributes::{attributed, range_of};
+pub use conversions::{conversion, qualified};
+pub use types::type_attribute_piece;

@@ -1,3 +1,0 @@
-pub mod BoundLemmas
-pub mod ConversionLemmas
-pub mod TypeLemmas

@@ -1,2 +1,0 @@
-mod KindLemmas
-mod TreeLemmas
