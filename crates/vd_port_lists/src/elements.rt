@@ -44,6 +44,13 @@ impl Elements {
         Ok(Elements { listed, modes })
     }
 
+    /// The elements, in the order of the view.
+    pub fn listed(&self) -> &[ListedElement]
+        ensures { result.now ≡ self.now }
+    {
+        self.listed.as_slice()
+    }
+
     /// The mode or view of the first element of a name.
     fn named(&self, name: &[u8]) -> Option<PortMode>
         ensures { result ≡ first_named self.now name.now }

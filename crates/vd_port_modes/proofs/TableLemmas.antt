@@ -1,5 +1,5 @@
 -- What stands in the tables is what the definitions say of a design.
-use Rattle.std.proofs.Common.{◌≡◌, ◌==◌, ◌++◌, ◌||◌, ℕ, zero, suc, Bool, true, false, cond, List, [], ◌∷◌, Option, Some, None, map, get_or, drop, refl, sym, ap, ap₂, ◌∙◌, arith}
+use Rattle.std.proofs.Common.{◌≡◌, ◌==◌, ◌++◌, ◌||◌, ℕ, zero, suc, Bool, true, false, cond, List, [], ◌∷◌, Option, Some, None, map, get_or, slice_index_or, drop, refl, sym, ap, ap₂, ◌∙◌, arith}
 use Rattle.std.proofs.lemmas.Bool.Decides.{nat_tests}
 use Rattle.std.specs.Str.{bytes_eq}
 use Rattle.vd_elaboration.specs.Building.{Input}
@@ -9,17 +9,18 @@ use Rattle.vd_elaboration.specs.Instances.{element_mode, view_in}
 use Rattle.vd_meaning.specs.Brackets.{or_else}
 use Rattle.vd_meaning.specs.Names.{number_or}
 use Rattle.vd_meaning.specs.Tables.{Table, copies_in, same_type, table}
-use Rattle.vd_port_lists.specs.Listed.{one_by_one, own_views, read_port, read_view, views_of_listed, with_mode}
+use Rattle.vd_port_lists.specs.Listed.{one_by_one, own_views, read_element, read_port, read_view, views_of_listed, with_mode}
+use Rattle.vd_port_lists.specs.declared.entries.ListedElement.{ListedElement}
 use Rattle.vd_port_lists.specs.declared.entries.ListedInstance.{ListedInstance}
 use Rattle.vd_port_lists.specs.declared.entries.ListedPort.{ListedPort}
 use Rattle.vd_port_lists.specs.declared.modes.PortMode.{PortMode}
 use Rattle.vd_port_lists.specs.declared.views.ListedView.{ListedView}
 use Rattle.vd_port_modes.specs.Source.{Source, copies_there, design_in}
-use Rattle.vd_port_modes.specs.Tables.{AreTables, copied_before, copied_view, first_listed, found_at, found_before, found_in, no_view, own_before, read_or_input, view_found}
+use Rattle.vd_port_modes.specs.Tables.{AreTables, copied_before, copied_view, first_listed, found_at, found_before, found_in, names_listed, names_of, no_view, own_before, read_or_input, view_by, view_found}
 use Rattle.vd_port_modes.specs.declared.found.Found.{Found}
 use Rattle.vd_resolved.specs.Trees.{ResolvedTree}
 use Rattle.vd_trees.specs.declared.revision.Revision.{Revision}
-use Rattle.vd_value_rules.specs.Designs.{design_of, is_listed, mode_of_port, mode_of_ports, port_among, ports_in}
+use Rattle.vd_value_rules.specs.Designs.{design_of, elements_of, is_listed, mode_of_port, mode_of_ports, port_among, ports_in}
 
 -- ---- ports
 
@@ -190,6 +191,24 @@ copied_mode cs (x ∷ xs) name =
     ap (λ rest. cond (bytes_eq x.name name) (mode_as cs x.mode) rest) (copied_mode cs xs name)
     ∙ mode_by_name (bytes_eq x.name name) cs x.mode (element_mode xs name)
 
+-- ---- names of elements of copies
+
+names_read : (xs : List ListedElement) → names_listed xs ≡ names_of (map read_element xs)
+names_read [] = refl
+names_read (x ∷ xs) = ap (λ ns. x.name ∷ ns) (names_read xs)
+
+names_copied : (cs : List (ℕ × ℕ)) (xs : List ViewElement) → names_of xs ≡ names_of (map (element_as cs) xs)
+names_copied cs [] = refl
+names_copied cs (x ∷ xs) = ap (λ ns. x.name ∷ ns) (names_copied cs xs)
+
+names_by : (instance : Option ℕ) (all : List (List (ℕ × ℕ))) (n : ℕ) (v : ListedView) → names_listed v.elements ≡ names_of (view_by instance all n v).elements
+names_by None all n v = names_read v.elements
+names_by (Some instance) all n v = names_read v.elements ∙ names_copied (get_or all instance []) (map read_element v.elements)
+
+pub names_found : (vs : List ListedView) (all : List (List (ℕ × ℕ))) (n : ℕ) (found : Found)
+    → names_listed (slice_index_or vs found.view no_view).elements ≡ names_of (elements_of (view_found vs all n (Some found)))
+names_found vs all n found = names_by found.instance all n (slice_index_or vs found.view no_view)
+
 view_of_none : (vs : List View) → view_in vs None ≡ None
 view_of_none [] = refl
 view_of_none (v ∷ vs) = view_of_none vs
@@ -213,3 +232,14 @@ view_answered g {r} {tree} {modes} {found} {vs} {all} are vs' all' s view o x is
     ∙ ap (λ p. g (view_found vs all (number_or view) p)) is_o
     ∙ ap g (tables_find r tree modes found vs all are view)
     ∙ ap (λ z. g (view_in (design_in z).units.views view)) is_source
+
+-- the names of the elements are those of the view that is meant, whatever the copies are
+pub names_answered : {r : Revision} {tree : ResolvedTree} {modes : ℕ → Option PortMode} {found : ℕ → Option Found}
+    {vs : List ListedView} {all : List (List (ℕ × ℕ))}
+    → AreTables r tree modes found vs all
+    → (vs' : List ListedView) (s : Source) (view : Option ℕ) (o : Option Found) (x : List (List ℕ))
+    → record { revision = r; tree = tree } ≡ s → vs' ≡ vs → o ≡ found_at found view
+    → ((copies : List (List (ℕ × ℕ))) (n : ℕ) → x ≡ names_of (elements_of (view_found vs' copies n o)))
+    → x ≡ names_of (elements_of (view_in (design_in s).units.views view))
+names_answered {r} {tree} {modes} {found} {vs} {all} are vs' s view o x is_source is_vs is_o is =
+    view_answered (λ v. names_of (elements_of v)) are vs' all s view o x is_source is_vs refl is_o (is all)

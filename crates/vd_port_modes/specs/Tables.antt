@@ -2,11 +2,12 @@
 use Rattle.std.specs.Prelude.{◌==◌, ◌≡◌, List, None, Option, Some, [], if◌then◌else◌, map, slice_index_or, suc, ℕ, ◌∷◌}
 use Rattle.vd_elaboration.specs.Building.{Input}
 use Rattle.vd_elaboration.specs.Elaborations.{copied, element_as, number_as}
-use Rattle.vd_elaboration.specs.Facets.{ByMode, ElementMode, View}
+use Rattle.vd_elaboration.specs.Facets.{ByMode, ElementMode, View, ViewElement}
 use Rattle.vd_elaboration.specs.Instances.{view_in}
 use Rattle.vd_meaning.specs.Tables.{same_type}
 use Rattle.vd_port_lists.specs.Listed.{read_view}
 use Rattle.vd_port_lists.specs.Modes.{read_mode}
+use Rattle.vd_port_lists.specs.declared.entries.ListedElement.{ListedElement}
 use Rattle.vd_port_lists.specs.declared.entries.ListedPort.{ListedPort}
 use Rattle.vd_port_lists.specs.declared.modes.PortMode.{PortMode}
 use Rattle.vd_port_lists.specs.declared.views.ListedView.{ListedView}
@@ -62,6 +63,13 @@ view_by (Some instance) all n v = copied_view (slice_index_or all instance []) n
 abbrev pub view_found : List ListedView → List (List (ℕ × ℕ)) → ℕ → Option Found → Option View
 view_found vs all n None = None
 view_found vs all n (Some found) = Some (view_by found.instance all n (slice_index_or vs found.view no_view))
+
+-- the names of elements, which a copy keeps
+abbrev pub names_listed : List ListedElement → List (List ℕ)
+names_listed xs = map (λ x. x.name) xs
+
+abbrev pub names_of : List ViewElement → List (List ℕ)
+names_of xs = map (λ x. x.name) xs
 
 -- where a view is found, if one is meant
 abbrev pub found_at : (ℕ → Option Found) → Option ℕ → Option Found

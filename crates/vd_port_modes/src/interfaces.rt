@@ -1,6 +1,6 @@
 //! The modes and views of a design.
 
-ghost use Rattle.std.specs.Prelude.{◌≡◌, IfOk, Some, [], map, nat_eq, slice_index_or, ℕ};
+ghost use Rattle.std.specs.Prelude.{◌≡◌, IfOk, List, Some, [], map, nat_eq, slice_index_or, ℕ};
 ghost use Rattle.std.specs.HashMap.{get};
 ghost use Rattle.vd_elaboration.specs.Elaborations.{mode_as, number_as};
 ghost use Rattle.vd_elaboration.specs.Instances.{element_mode, view_in};
@@ -10,7 +10,7 @@ ghost use Rattle.vd_port_lists.specs.Listed.{read_view};
 ghost use Rattle.vd_port_lists.specs.Modes.{read_mode};
 ghost use Rattle.vd_port_modes.specs.Readings.{read_oriented};
 ghost use Rattle.vd_port_modes.specs.Source.{copies_there, design_in};
-ghost use Rattle.vd_port_modes.specs.Tables.{found_at, no_view, view_found};
+ghost use Rattle.vd_port_modes.specs.Tables.{found_at, names_listed, names_of, no_view, view_found};
 ghost use Rattle.vd_value_rules.specs.Designs.{at_element as is_at_element, elements_of, elements_of_view, mode_of_port as is_mode_of_port};
 ghost use Rattle.vd_value_rules.specs.Knowledge.{mark_of_view as is_mark_of_view};
 
@@ -23,7 +23,8 @@ use std::marker::Model;
 use vd_declarations::{DeclId, Declaration};
 use vd_facets::{Role, role_of};
 use vd_port_lists::{
-    ListedInstance, ListedView, Mode, PortMode, listed_instances, listed_ports, listed_views,
+    ListedElement, ListedInstance, ListedView, Mode, PortMode, listed_instances, listed_ports,
+    listed_views,
 };
 use vd_resolved::Tree;
 use vd_trees::Revision;
@@ -128,6 +129,27 @@ fn mode_found(views: &[ListedView], copies: &[Copies], found: Found, name: &[u8]
     }
 }
 
+/// The elements of a view of the list.
+fn elements_listed(views: &[ListedView], view: usize) -> &[ListedElement]
+    ensures { result.now ≡ (slice_index_or views.now view no_view).elements }
+{
+    match views.get(view) {
+        Some(view) => view.elements.listed(),
+        None => &[],
+    }
+}
+
+/// The elements of a view, where the view is found at all. Those of a copy have the same names.
+#[tactic(auto, using(crate::proofs::TableLemmas::names_found))]
+fn elements_by(views: &[ListedView], found: Option<Found>) -> &[ListedElement]
+    ensures { (copies : List (List (ℕ × ℕ))) (n : ℕ) → names_listed result.now ≡ names_of (elements_of (view_found views.now copies n found)) }
+{
+    match found {
+        Some(found) => elements_listed(views, found.view),
+        None => &[],
+    }
+}
+
 /// Where a view is found, if one is meant.
 fn found_of(found: &HashMap<u32, Found>, view: Option<DeclId>) -> Option<Found>
     ensures { result ≡ found_at (get nat_eq found.now) view }
@@ -228,6 +250,15 @@ impl<'t> Interfaces<'t> {
     {
         let found = found_of(&self.found, view);
         mode_by(&self.views, &self.copies, found, name)
+    }
+
+    /// The elements of a view, by their names, in the order of the view. Their modes are those that the view was declared with, also where it
+    /// is a copy in an instance: for these `mode_of_element` is to be asked.
+    pub fn view_elements(&self, view: Option<DeclId>) -> &[ListedElement]
+        ensures { names_listed result.now ≡ names_of (elements_of_view (design_in self.now) view) }
+    {
+        let found = found_of(&self.found, view);
+        elements_by(&self.views, found)
     }
 
     /// Of an element of something with a mode or a view.
