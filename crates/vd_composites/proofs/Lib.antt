@@ -11,3 +11,4 @@ mod SliceLemmas
 mod ReplacedLemmas
 mod JoinedLemmas
 mod VectorLemmas
+mod LeafLemmas

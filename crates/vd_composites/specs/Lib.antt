@@ -11,3 +11,4 @@ pub mod Nodes
 pub mod Codes
 pub mod Answers
 pub mod Vectors
+pub mod Leaves

@@ -6,6 +6,7 @@ mod fitting;
 pub mod items;
 mod joining;
 pub mod laws;
+mod leaves;
 mod nodes;
 mod parts;
 pub mod ranges;

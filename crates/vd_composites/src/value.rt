@@ -4,7 +4,7 @@ ghost use Rattle.std.specs.Prelude.{◌≡◌, Some, None, IfOk, Option};
 ghost use Rattle.vd_values.specs.declared.scalar.Scalar.{Scalar};
 ghost use Rattle.vd_composites.specs.declared.scalars.ScalarSubtype.{ScalarSubtype};
 ghost use Rattle.vd_composites.specs.Answers.{Answers, ListAnswers, MadeNodes};
-ghost use Rattle.vd_composites.specs.Composites.{One, bounds_of, same_value, scalar_of};
+ghost use Rattle.vd_composites.specs.Composites.{One, bounds_of, leaves, same_value, scalar_of};
 ghost use Rattle.vd_composites.specs.Composites.{Value as AnyValue};
 ghost use Rattle.vd_composites.specs.Nodes.{after, read, value_in};
 ghost use Rattle.vd_composites.specs.Parts.{AtField, AtIndex, AtSlice, array_of, part, with_part};
@@ -14,6 +14,7 @@ ghost use Rattle.vd_composites.specs.Subtypes.{Arrays, Records, Scalars, Subtype
 
 use crate::ends::ValueEnd;
 use crate::fitting::{fit_bounded_nodes, fit_free_nodes, fit_record_nodes, fit_scalar_nodes};
+use crate::leaves::leaf_nodes;
 use crate::nodes::{Node, bounds_at, node_of, scalar_at};
 use crate::parts::{element_nodes, field_nodes, slice_nodes};
 use crate::ranges::Bounds;
@@ -137,6 +138,13 @@ impl Value {
         ensures { Answers result (with_part (AtField number) new.now self.now) }
     {
         value_from(with_field_nodes(alloc, &self.nodes, number, &new.nodes))
+    }
+
+    /// The scalar values that it is made of, from left to right and record by field.
+    pub fn leaves(&self, alloc: Global) -> Result<Vec<Scalar>, AllocError>
+        ensures { IfOk result (λ scalars. scalars.items ≡ leaves self.now) }
+    {
+        leaf_nodes(alloc, &self.nodes)
     }
 
     /// The positions of the elements, where the value is an array of integers or of literals.
