@@ -3,7 +3,7 @@
 use vd_declarations::DeclId;
 
 /// The mode of a port. (IEEE 1076, interface declarations.)
-#[derive(Clone, Copy, PartialEq, Eq, Debug)]
+#[derive(Clone, Copy, PartialEq, Eq, Hash, Debug)]
 pub enum Mode {
     Input,
     Output,
@@ -11,7 +11,7 @@ pub enum Mode {
 }
 
 /// What a port or an element of a view has: a mode, or a view, perhaps conversed. (IEEE 1076, mode views.)
-#[derive(Clone, Copy, Debug)]
+#[derive(Clone, Copy, PartialEq, Eq, Hash, Debug)]
 pub enum PortMode {
     Plain(Mode),
     ByView {

@@ -1,3 +1,4 @@
+mod CountLemmas
 pub mod CopyLemmas
 pub mod TableLemmas
 pub mod ReachLemmas

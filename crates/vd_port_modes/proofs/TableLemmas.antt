@@ -15,6 +15,8 @@ use Rattle.vd_port_lists.specs.declared.entries.ListedInstance.{ListedInstance}
 use Rattle.vd_port_lists.specs.declared.entries.ListedPort.{ListedPort}
 use Rattle.vd_port_lists.specs.declared.modes.PortMode.{PortMode}
 use Rattle.vd_port_lists.specs.declared.views.ListedView.{ListedView}
+use Rattle.vd_port_modes.proofs.CountLemmas.{views_are_counted}
+use Rattle.vd_port_modes.specs.Counts.{view_count}
 use Rattle.vd_port_modes.specs.Source.{Source, copies_there, design_in}
 use Rattle.vd_port_modes.specs.Tables.{AreTables, copied_before, copied_view, first_listed, found_at, found_before, found_in, names_listed, names_of, no_view, own_before, read_or_input, view_by, view_found}
 use Rattle.vd_port_modes.specs.declared.found.Found.{Found}
@@ -167,16 +169,18 @@ views_are_found r tree whole xs all own copies are n =
     ∙ ap (λ vs. view_in (vs ++ views_of_instances (units_of r tree).units vs) (Some n)) own
 
 pub are_tables : (r : Revision) (tree : ResolvedTree) (ports : List ListedPort) (whole : List ListedView) (xs : List ListedInstance) (all : List (List (ℕ × ℕ)))
-    (modes : ℕ → Option PortMode) (found : ℕ → Option Found)
+    (modes : ℕ → Option PortMode) (found : ℕ → Option Found) (count : ℕ)
     → map read_port ports ≡ one_by_one (ports_in (units_of r tree).units)
     → map read_view whole ≡ own_views r tree
     → ((views : List View) → views_of_listed (table r tree.declarations) views xs ≡ views_of_instances (units_of r tree).units views)
     → all ≡ map (copies_there tree.declarations) xs
     → ((n : ℕ) → modes n ≡ first_listed ports n) → ((n : ℕ) → found n ≡ found_in whole all n)
-    → AreTables r tree modes found whole all
-are_tables r tree ports whole xs all modes found listed own copies are modes_are found_are = record {
+    → count ≡ view_count whole all
+    → AreTables r tree modes found whole all count
+are_tables r tree ports whole xs all modes found count listed own copies are modes_are found_are count_is = record {
   modes_are = λ n. ap read_or_input (modes_are n) ∙ modes_are_found r tree ports listed n;
   views_are = λ n. ap (view_found whole all n) (found_are n) ∙ views_are_found r tree whole xs all own copies are n;
+  count_is = views_are_counted r tree whole xs all count own copies are count_is;
 }
 
 -- ---- modes of elements of copies
@@ -213,30 +217,30 @@ view_of_none : (vs : List View) → view_in vs None ≡ None
 view_of_none [] = refl
 view_of_none (v ∷ vs) = view_of_none vs
 
-tables_find : (r : Revision) (tree : ResolvedTree) (modes : ℕ → Option PortMode) (found : ℕ → Option Found) (vs : List ListedView) (all : List (List (ℕ × ℕ)))
-    → AreTables r tree modes found vs all → (view : Option ℕ)
+tables_find : (r : Revision) (tree : ResolvedTree) (modes : ℕ → Option PortMode) (found : ℕ → Option Found) (vs : List ListedView) (all : List (List (ℕ × ℕ))) (count : ℕ)
+    → AreTables r tree modes found vs all count → (view : Option ℕ)
     → view_found vs all (number_or view) (found_at found view) ≡ view_in (design_of r tree).units.views view
-tables_find r tree modes found vs all are None = sym (view_of_none (design_of r tree).units.views)
-tables_find r tree modes found vs all are (Some n) = are.views_are n
+tables_find r tree modes found vs all count are None = sym (view_of_none (design_of r tree).units.views)
+tables_find r tree modes found vs all count are (Some n) = are.views_are n
 
 -- what is asked of the view that is found is asked of the view that is meant
 pub view_answered : {A : Type 0} (g : Option View → A) {r : Revision} {tree : ResolvedTree} {modes : ℕ → Option PortMode} {found : ℕ → Option Found}
-    {vs : List ListedView} {all : List (List (ℕ × ℕ))}
-    → AreTables r tree modes found vs all
+    {vs : List ListedView} {all : List (List (ℕ × ℕ))} {count : ℕ}
+    → AreTables r tree modes found vs all count
     → (vs' : List ListedView) (all' : List (List (ℕ × ℕ))) (s : Source) (view : Option ℕ) (o : Option Found) (x : A)
     → record { revision = r; tree = tree } ≡ s → vs' ≡ vs → all' ≡ all → o ≡ found_at found view → ((n : ℕ) → x ≡ g (view_found vs' all' n o))
     → x ≡ g (view_in (design_in s).units.views view)
-view_answered g {r} {tree} {modes} {found} {vs} {all} are vs' all' s view o x is_source is_vs is_all is_o is =
+view_answered g {r} {tree} {modes} {found} {vs} {all} {count} are vs' all' s view o x is_source is_vs is_all is_o is =
     is (number_or view)
     ∙ ap₂ (λ ws ds. g (view_found ws ds (number_or view) o)) is_vs is_all
     ∙ ap (λ p. g (view_found vs all (number_or view) p)) is_o
-    ∙ ap g (tables_find r tree modes found vs all are view)
+    ∙ ap g (tables_find r tree modes found vs all count are view)
     ∙ ap (λ z. g (view_in (design_in z).units.views view)) is_source
 
 -- the names of the elements are those of the view that is meant, whatever the copies are
 pub names_answered : {r : Revision} {tree : ResolvedTree} {modes : ℕ → Option PortMode} {found : ℕ → Option Found}
-    {vs : List ListedView} {all : List (List (ℕ × ℕ))}
-    → AreTables r tree modes found vs all
+    {vs : List ListedView} {all : List (List (ℕ × ℕ))} {count : ℕ}
+    → AreTables r tree modes found vs all count
     → (vs' : List ListedView) (s : Source) (view : Option ℕ) (o : Option Found) (x : List (List ℕ))
     → record { revision = r; tree = tree } ≡ s → vs' ≡ vs → o ≡ found_at found view
     → ((copies : List (List (ℕ × ℕ))) (n : ℕ) → x ≡ names_of (elements_of (view_found vs' copies n o)))

@@ -1,4 +1,5 @@
 pub mod Code
+pub mod Counts
 pub mod Readings
 pub mod Source
 pub mod Tables

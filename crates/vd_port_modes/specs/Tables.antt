@@ -1,5 +1,5 @@
 -- What stands in the tables for each number: the mode of the first port of the number, and where the first view of the number is found.
-use Rattle.std.specs.Prelude.{◌==◌, ◌≡◌, List, None, Option, Some, [], if◌then◌else◌, map, slice_index_or, suc, ℕ, ◌∷◌}
+use Rattle.std.specs.Prelude.{◌==◌, ◌≡◌, List, None, Option, Some, [], if◌then◌else◌, length, map, slice_index_or, suc, ℕ, ◌∷◌}
 use Rattle.vd_elaboration.specs.Building.{Input}
 use Rattle.vd_elaboration.specs.Elaborations.{copied, element_as, number_as}
 use Rattle.vd_elaboration.specs.Facets.{ByMode, ElementMode, View, ViewElement}
@@ -77,6 +77,7 @@ found_at found None = None
 found_at found (Some n) = found n
 
 -- what the tables have is what the definitions say of a design
-pub record AreTables (r : Revision) (tree : ResolvedTree) (modes : ℕ → Option PortMode) (found : ℕ → Option Found) (vs : List ListedView) (all : List (List (ℕ × ℕ))) : Type 0 where
+pub record AreTables (r : Revision) (tree : ResolvedTree) (modes : ℕ → Option PortMode) (found : ℕ → Option Found) (vs : List ListedView) (all : List (List (ℕ × ℕ))) (count : ℕ) : Type 0 where
   pub modes_are : (n : ℕ) → read_or_input (modes n) ≡ mode_of_port (design_of r tree) n
   pub views_are : (n : ℕ) → view_found vs all n (found n) ≡ view_in (design_of r tree).units.views (Some n)
+  pub count_is : count ≡ length (design_of r tree).units.views

@@ -17,7 +17,7 @@ pub struct Found {
 }
 
 /// A mode or a view, and whether modes are swapped round it.
-#[derive(Clone, Copy)]
+#[derive(Clone, Copy, PartialEq, Eq, Hash)]
 pub struct Oriented {
     pub mode: PortMode,
     pub is_swapped: bool,

@@ -1,6 +1,6 @@
 //! The modes and views of a design.
 
-ghost use Rattle.std.specs.Prelude.{◌≡◌, IfOk, List, Some, [], map, nat_eq, slice_index_or, ℕ};
+ghost use Rattle.std.specs.Prelude.{◌≡◌, IfOk, List, Some, [], length, map, nat_eq, slice_index_or, ℕ};
 ghost use Rattle.std.specs.HashMap.{get};
 ghost use Rattle.vd_elaboration.specs.Elaborations.{mode_as, number_as};
 ghost use Rattle.vd_elaboration.specs.Instances.{element_mode, view_in};
@@ -15,6 +15,7 @@ ghost use Rattle.vd_value_rules.specs.Designs.{at_element as is_at_element, elem
 ghost use Rattle.vd_value_rules.specs.Knowledge.{mark_of_view as is_mark_of_view};
 
 use crate::copies::Copies;
+use crate::counts::count_views;
 use crate::found::{Found, Oriented, differ};
 use crate::numbers::{modes_by_number, views_by_number};
 use std::alloc::{AllocError, Global};
@@ -39,6 +40,7 @@ pub struct Interfaces<'t> {
     views: Vec<ListedView>,
     copies: Vec<Copies>,
     found: HashMap<u32, Found>,
+    count: usize,
 }
 
 impl<'t> Model for Interfaces<'t> {
@@ -54,7 +56,7 @@ impl<'t> Model for Interfaces<'t> {
 
     ghost view = { λ a. record { revision = a.revision; tree = a.tree.now } };
 
-    ghost invariant = { λ a. AreTables a.revision a.tree.now (λ n. get nat_eq a.modes n) (λ n. get nat_eq a.found n) a.views.items a.copies.items };
+    ghost invariant = { λ a. AreTables a.revision a.tree.now (λ n. get nat_eq a.modes n) (λ n. get nat_eq a.found n) a.views.items a.copies.items a.count };
 }
 
 /// The copies of each instance.
@@ -195,6 +197,7 @@ impl<'t> Interfaces<'t> {
         let copies = copies_of_instances(alloc, tree.declarations(), &instances)?;
         let modes = modes_by_number(alloc, &ports)?;
         let found = views_by_number(alloc, &views, &copies)?;
+        let count = count_views(&views, &copies)?;
         Ok(Interfaces {
             revision,
             tree,
@@ -202,6 +205,7 @@ impl<'t> Interfaces<'t> {
             views,
             copies,
             found,
+            count,
         })
     }
 
@@ -210,6 +214,13 @@ impl<'t> Interfaces<'t> {
         ensures { result ≡ self.now.revision }
     {
         self.revision
+    }
+
+    /// How many views there are, with the copies in instances of packages.
+    pub fn view_count(&self) -> usize
+        ensures { result ≡ length (design_in self.now).units.views }
+    {
+        self.count
     }
 
     /// The declarations of the design.

@@ -2,6 +2,7 @@
 #![tactic(auto)]
 
 pub mod copies;
+mod counts;
 pub mod found;
 pub mod interfaces;
 mod numbers;
