@@ -13,8 +13,10 @@ use Rattle.vd_value_rules.specs.Types.{broken_types}
 use Rattle.vd_least.proofs.OrderLaws.{lesser_brackets}
 use Rattle.vd_value_rules.specs.Rules.{broken_at, is_of_names, value_rules}
 use Rattle.vd_value_rules.specs.Standings.{State, beginning, state_along, state_down}
+use Rattle.vd_resolved.specs.Trees.{ResolvedTree}
+use Rattle.vd_trees.specs.declared.revision.Revision.{Revision}
 use Rattle.vd_rule_groups.specs.declared.firsts.Firsts.{Firsts}
-use Rattle.vd_rule_groups.specs.Groups.{Breaking, is_of_rules, judge_by, name_used, name_in_function, names_used, names_in_functions, assignments, choices, aggregates, static_expressions, bounds, bodies, instances, view_ports, operators, types}
+use Rattle.vd_rule_groups.specs.Groups.{Breaking, either_group, firsts_by, is_of_rules, joined_firsts, judge_by, name_used, name_in_function, names_used, names_in_functions, assignments, choices, aggregates, static_expressions, bounds, bodies, instances, view_ports, operators, types}
 use Rattle.vd_rule_groups.specs.Laws.{GroupsAreAll}
 use Rattle.vd_rule_groups.proofs.FirstLemmas.{first_of_kind, first_of_both}
 use Rattle.vd_rule_groups.proofs.WalkLemmas.{first_of_sum}
@@ -105,3 +107,12 @@ pub groups_are_all : GroupsAreAll
 groups_are_all r tree =
     let both : Option Refused → Option Refused → Firsts = λ a b. record { of_names = a; of_rules = b } in
     ap₂ both (groups_of_kind is_of_names (design_of r tree) beginning tree.units) (groups_of_kind is_of_rules (design_of r tree) beginning tree.units)
+
+-- the first refusals of two groups together
+pub firsts_of_either : (one other : Breaking) (r : Revision) (tree : ResolvedTree)
+    → firsts_by (either_group one other) r tree ≡ joined_firsts (firsts_by one r tree) (firsts_by other r tree)
+firsts_of_either one other r tree =
+    let both : Option Refused → Option Refused → Firsts = λ a b. record { of_names = a; of_rules = b } in
+    let d : Design = design_of r tree in
+    ap₂ both (of_plus is_of_names (state_down d) (state_along d) (one d) (other d) beginning tree.units)
+    (of_plus is_of_rules (state_down d) (state_along d) (one d) (other d) beginning tree.units)

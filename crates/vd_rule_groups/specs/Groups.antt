@@ -1,5 +1,5 @@
 -- The rules that need types, values and static names, in groups, each of which one walk can ask. All groups see the same states.
-use Rattle.std.specs.Prelude.{ℕ, List, [], not, Bool, if◌then◌else◌}
+use Rattle.std.specs.Prelude.{ℕ, List, [], ◌++◌, not, Bool, if◌then◌else◌}
 use Rattle.std.specs.List.{filter}
 use Rattle.vd_bytes.specs.declared.answers.Refused.{Refused}
 use Rattle.vd_bytes.specs.declared.places.Place.{Place}
@@ -44,6 +44,10 @@ Breaking = Design → State → Resolved → List ℕ → Place → Forest Resol
 
 abbrev pub judge_by : Breaking → Design → Judge Resolved State
 judge_by broken d = record { broken = broken d; down = state_down d; along = state_along d }
+
+-- what it breaks of one of two groups, or of both
+abbrev pub either_group : Breaking → Breaking → Breaking
+either_group one other d s n text place parts = one d s n text place parts ++ other d s n text place parts
 
 -- what a design breaks of a group
 abbrev pub broken_by : Breaking → Revision → ResolvedTree → List Refused
