@@ -1,5 +1,5 @@
 -- One walk for the rules that hang on what is known of declarations.
-use Rattle.std.specs.Prelude.{◌≡◌, ◌++◌, ◌∷◌, List, map, reverse}
+use Rattle.std.specs.Prelude.{◌≡◌, ◌∷◌, List, map, reverse}
 use Rattle.vd_bytes.specs.declared.answers.Refused.{Refused}
 use Rattle.vd_following.specs.Positions.{Position, Tree, judged, state_at}
 use Rattle.vd_forest.specs.Forest.{Forest}
@@ -8,7 +8,7 @@ use Rattle.vd_known_designs.specs.Designs.{Knows}
 use Rattle.vd_known_designs.specs.declared.design.KnownDesign.{KnownDesign}
 use Rattle.vd_port_modes.specs.Source.{design_in}
 use Rattle.vd_resolved.specs.declared.node.Resolved.{Resolved}
-use Rattle.vd_rule_groups.specs.Groups.{Breaking, aggregates, bounds, firsts_of, judge_by, static_expressions, types}
+use Rattle.vd_rule_groups.specs.Groups.{Breaking, aggregates, bounds, choices, either_group, firsts_of, instances, judge_by, static_expressions, types}
 use Rattle.vd_value_rules.specs.Declaring.{declaring, unit_declared_by, units_declared}
 use Rattle.vd_value_rules.specs.Designs.{Design}
 use Rattle.vd_value_rules.specs.Knowledge.{Known}
@@ -17,11 +17,9 @@ use Rattle.vd_value_walk.specs.Levels.{AreLevels}
 use Rattle.vd_value_walk.specs.declared.walking.Walk.{Walk}
 use Rattle.vd_forms.specs.declared.form.Form.TheVariants as form
 
--- what a node breaks of four groups
+-- what a node breaks of six groups
 abbrev pub asked : Breaking
-asked d s n text place parts =
-    aggregates d s n text place parts ++ (static_expressions d s n text place parts
-    ++ (bounds d s n text place parts ++ types d s n text place parts))
+asked = either_group choices (either_group aggregates (either_group static_expressions (either_group bounds (either_group instances types))))
 
 -- the state at a position of a design
 abbrev pub state_here : Design → Position Resolved → State
@@ -35,6 +33,7 @@ broken_here d p x = judged (judge_by asked d) beginning p x
 
 -- A walk that has found these refusals is at the first of these positions, and stands in the further ones.
 pub record Follows (x : Walk) (rs : List Refused) (ps : List (Position Resolved)) : Type 0 where
+  pub same : x.facts.now ≡ x.interfaces.now
   pub found : x.found ≡ firsts_of rs
   pub knows : Knows (design_in x.interfaces.now) x.design (map (known_here (design_in x.interfaces.now)) ps)
   pub levels : AreLevels (design_in x.interfaces.now) (x.here ∷ reverse x.round.items) (map (state_here (design_in x.interfaces.now)) ps)

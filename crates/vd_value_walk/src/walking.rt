@@ -24,6 +24,7 @@ use vd_forest::{Cursor, Opened};
 use vd_forms::Form;
 use vd_known_designs::KnownDesign;
 use vd_known_units::{unit_declared, units_declared};
+use vd_port_facts::PortFacts;
 use vd_port_modes::Interfaces;
 use vd_resolved::{Resolved, Tree};
 use vd_rule_groups::{Firsts, nothing_refused, together};
@@ -34,6 +35,7 @@ use vd_trees::Revision;
 #[derive(Drop)]
 pub struct Walk<'a, 'i, 't> {
     pub interfaces: &'i Interfaces<'t>,
+    pub facts: &'i PortFacts<'t>,
     pub design: KnownDesign<'a, 't>,
     /// The place, and the places that it stands in.
     pub here: Level,
@@ -146,7 +148,14 @@ impl<'a, 'i, 't> Following<'a, Resolved> for Walk<'a, 'i, 't> {
 
     fn enter(&mut self, alloc: Global, node: &Opened<'a, Resolved>) -> Result<(), AllocError> {
         let around = surroundings(&self.here);
-        let found = refusals(&mut self.design, self.interfaces, alloc, &around, node)?;
+        let found = refusals(
+            &mut self.design,
+            self.interfaces,
+            self.facts,
+            alloc,
+            &around,
+            node,
+        )?;
         let inside = first_part(&mut self.design, self.interfaces, alloc, &self.here, node)?;
         go_inside(&mut self.design, alloc, &node.form, &node.parts)?;
         self.found = together(self.found, found);
@@ -172,14 +181,16 @@ impl<'a, 'i, 't> Following<'a, Resolved> for Walk<'a, 'i, 't> {
     }
 }
 
-/// The least refusals of the rules on aggregates, static expressions, bounds, and actuals that are types.
+/// The least refusals of the rules on choices, aggregates, static expressions, bounds, port maps, and actuals that are types.
 pub fn value_refusals(alloc: Global, revision: Revision, tree: &Tree) -> Result<Firsts, AllocError>
     ensures { IfOk result (λ found. found ≡ firsts_by asked revision tree.now) }
 {
     let interfaces = Interfaces::of(alloc, revision, tree)?;
+    let facts = PortFacts::of(alloc, revision, tree)?;
     let design = KnownDesign::new(alloc, revision, tree.declarations())?;
     let mut walk = Walk {
         interfaces: &interfaces,
+        facts: &facts,
         design,
         here: Level {
             coming: Vec::new(alloc),

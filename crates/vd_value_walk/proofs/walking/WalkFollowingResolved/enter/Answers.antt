@@ -7,6 +7,15 @@ use Rattle.vd_value_walk.specs.Levels.{IsLevel}
 use Rattle.vd_value_walk.specs.Walking.{asked, known_here, state_here}
 use Rattle.vd_value_walk.proofs.walking.WalkFollowingResolved.enter.Goals as goal
 
+pub refusals-requires : goal.refusals-requires
+refusals-requires c =
+    let d = design_in c.args.self.now.interfaces.now in
+    let at = c.requires.place in
+    record {
+      ready = record { design = d; now = known_here d at.here; round = map (known_here d) at.round; knows = at.knows.knows };
+      same = at.knows.same;
+    }
+
 pub first_part-requires : goal.first_part-requires
 first_part-requires c =
     let d = design_in c.args.self.now.interfaces.now in
@@ -37,6 +46,7 @@ returns-clause-follows c = λ rs p ps follows.
     let two = c.in_ok-inside.ensures.knows d (s.known ∷ round) one in
     let around = c.surroundings-around.ensures d s follows.levels.0 in
     record {
+      same = follows.same;
       found = c.together-self.ensures
           ∙ joined_with x.found c.in_ok-found.found rs (asked d s n.form n.text.now n.place n.parts) follows.found (c.in_ok-found.ensures.finds s round follows.knows around);
       knows = c.in_ok-go_inside.ensures.knows d s.known round two;

@@ -28,6 +28,7 @@ returns-clause-follows c = λ rs p ps follows.
     let ended = subst (λ k. Knows d x.design (k ∷ known_here d p ∷ map (known_here d) ps)) (end_known d p t) follows.knows in
     let levels = levels_less d c.pop.new.self.items x.round.items c.in-Some.outer (state_here d p) (map (state_here d) ps) (c.pop.ensures.items ∙ ap (λ o. c.pop.new.self.items ++ option_to_list o) c.in-Some.is) follows.levels.1 in
     record {
+      same = follows.same;
       found = follows.found;
       knows = c.in_ok-go_outside.ensures.knows (known_here d p) (map (known_here d) ps) ended;
       levels = (level_along d c.go_on.new.level (state_here d p) t (c.go_on.ensures d (state_here d p) levels.0), levels.1);
