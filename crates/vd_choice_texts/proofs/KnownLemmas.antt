@@ -15,7 +15,7 @@ use Rattle.vd_environments.specs.Environments.{Env}
 use Rattle.vd_environments.specs.Got.{Got, senseless}
 use Rattle.vd_given_choices.proofs.RefusalLemmas.{known_early, same_all_known, same_known, same_repeated}
 use Rattle.vd_given_choices.specs.Choices.{AreChoices, IsChoice}
-use Rattle.vd_given_choices.specs.Refusals.{known_where, repeated_known, those_known}
+use Rattle.vd_given_choices.specs.Refusals.{known_where, repeated_known}
 use Rattle.vd_given_choices.specs.declared.choices.Choice.{Choice}
 use Rattle.vd_least.proofs.LeastLaws.{least_of_append}
 use Rattle.vd_least.specs.Least.{least_of, lesser}

@@ -1,7 +1,6 @@
 -- What is refused of choices of selectors of array types, without choices that match and with them, is refused by none of the rules of names.
 use Rattle.std.proofs.Common.{◌≡◌, ◌∷◌, ◌++◌, Bool, List, None, Option, Some, [], ap, false, not, refl, sym, ℕ, ◌∙◌, ◌&&◌}
 use Rattle.std.proofs.lemmas.List.{append_assoc}
-use Rattle.vd_bytes.specs.declared.answers.Refused.{Refused}
 use Rattle.vd_choice_texts.specs.Texts.{texts_refused}
 use Rattle.vd_composites.specs.Composites.{Value}
 use Rattle.vd_environments.specs.Environments.{Env}

@@ -18,7 +18,11 @@ use vd_given_choices::Choice;
 fn is_known(choice: &Choice) -> bool
     ensures { result ≡ is_some (value_in choice.now) }
 {
-    if choice.is_static { choice.value.is_some() } else { false }
+    if choice.is_static {
+        choice.value.is_some()
+    } else {
+        false
+    }
 }
 
 /// Whether the values of all choices are known.
@@ -40,11 +44,7 @@ fn counted_text(alloc: Global, positions: &[i64]) -> Result<Text, AllocError>
 }
 
 /// One more text, where there is one.
-fn add_text(
-    alloc: Global,
-    texts: &mut Vec<Text>,
-    text: Option<Vec<i64>>,
-) -> Result<(), AllocError>
+fn add_text(alloc: Global, texts: &mut Vec<Text>, text: Option<Vec<i64>>) -> Result<(), AllocError>
     ensures { (ts : List (List ℤ)) → AreCounted (texts_of texts.old.items) ts
         → OnOk result (AreCounted (texts_of texts.new.items) (ts ++ listed (items_where text))) }
 {

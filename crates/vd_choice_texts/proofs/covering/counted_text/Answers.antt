@@ -1,4 +1,4 @@
-use Rattle.std.proofs.Common.{SFits, ap, get_or, pos, rules, w64, ℕ, ℤ, ◌+ℤ◌, ◌∙◌}
+use Rattle.std.proofs.Common.{SFits, ap, get_or, pos, rules, w64, ℤ, ◌+ℤ◌, ◌∙◌}
 use Rattle.std.proofs.lemmas.Int.{to_z-of_z}
 use Rattle.vd_choice_covering.specs.Covering.{middle}
 use Rattle.vd_choice_texts.proofs.CountLemmas.{number_more}

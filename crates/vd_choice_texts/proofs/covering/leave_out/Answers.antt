@@ -1,4 +1,3 @@
-use Rattle.std.proofs.Common.{ap, false, not, sym, true, ◌&&◌, ◌≡◌, ◌∙◌}
 use Rattle.vd_choice_texts.proofs.CountLemmas.{choices_long}
 use Rattle.vd_choice_texts.proofs.covering.leave_out.Goals as goal
 

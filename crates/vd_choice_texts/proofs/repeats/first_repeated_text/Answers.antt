@@ -1,4 +1,4 @@
-use Rattle.std.proofs.Common.{[], ap, drop, subst, sym, take, ◌+◌, ◌++◌, ◌∙◌}
+use Rattle.std.proofs.Common.{ap, subst, sym, take, ◌+◌, ◌++◌, ◌∙◌}
 use Rattle.std.proofs.lemmas.List.{drop_all}
 use Rattle.vd_choice_texts.proofs.SeenLemmas.{those_more}
 use Rattle.vd_choice_texts.specs.Texts.{HasTexts, text_in}

@@ -1,5 +1,4 @@
 use Rattle.vd_choice_texts.proofs.KnownLemmas.{lengthless_refused}
-use Rattle.vd_choice_texts.proofs.TextLemmas.{array_of_rules, texts_by_equality, texts_by_matching}
 use Rattle.vd_choice_texts.proofs.texts.refused_lengthless.Goals as goal
 
 pub returns : goal.returns
