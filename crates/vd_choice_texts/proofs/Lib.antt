@@ -1,0 +1,4 @@
+mod CountLemmas
+mod KnownLemmas
+mod SeenLemmas
+pub mod TextLemmas
