@@ -10,7 +10,7 @@ use Rattle.vd_elaboration.specs.Facets.{ByMode, ElementMode}
 use Rattle.vd_elaboration.specs.Instances.{element_mode}
 use Rattle.vd_port_lists.specs.Listed.{read_element}
 use Rattle.vd_port_lists.specs.Modes.{read_mode}
-use Rattle.vd_port_lists.specs.Named.{first_named, mode_named}
+use Rattle.vd_port_lists.specs.Named.{first_named, value_named}
 use Rattle.vd_port_lists.specs.declared.entries.ListedElement.{ListedElement}
 use Rattle.vd_port_lists.specs.declared.modes.PortMode.{PortMode}
 
@@ -44,37 +44,37 @@ same_tests name a b same = ap (bytes_eq name) (same_texts a b same)
 both_tests : (name a b : List ℕ) → bytes_eq name a ≡ true → bytes_eq a b ≡ false → bytes_eq name b ≡ true → false ≡ true
 both_tests name a b first other second = sym other ∙ ap (λ x. bytes_eq x b) (sym (same_texts name a first)) ∙ second
 
-module _ {K : Type 0} (read : K → List ℕ) (k : K) (mode : PortMode) (name : List ℕ) where
+module _ {K X : Type 0} (read : K → List ℕ) (k : K) (x : X) (name : List ℕ) where
   abbrev eq : K → K → Bool
-  eq x y = bytes_eq (read x) (read y)
+  eq a b = bytes_eq (read a) (read b)
 
-  put_behind : (e : K × PortMode) (es : List (K × PortMode)) (a b : Bool) → bytes_eq name (read e.0) ≡ a → bytes_eq name (read k) ≡ b
-      → bytes_eq (read k) (read e.0) ≡ false → mode_named (insert_entry eq es k mode) read name ≡ cond b (Some mode) (mode_named es read name)
-      → cond a (Some e.1) (mode_named (insert_entry eq es k mode) read name) ≡ cond b (Some mode) (cond a (Some e.1) (mode_named es read name))
+  put_behind : (e : K × X) (es : List (K × X)) (a b : Bool) → bytes_eq name (read e.0) ≡ a → bytes_eq name (read k) ≡ b
+      → bytes_eq (read k) (read e.0) ≡ false → value_named (insert_entry eq es k x) read name ≡ cond b (Some x) (value_named es read name)
+      → cond a (Some e.1) (value_named (insert_entry eq es k x) read name) ≡ cond b (Some x) (cond a (Some e.1) (value_named es read name))
   put_behind e es true true is_a is_b other before = absurd (false≢true (both_tests name (read k) (read e.0) is_b other is_a))
   put_behind e es true false is_a is_b other before = refl
   put_behind e es false b is_a is_b other before = before
 
-  put_here : (e : K × PortMode) (rest : Option PortMode) (a : Bool) → bytes_eq name (read k) ≡ a → bytes_eq name (read e.0) ≡ a
-      → cond a (Some mode) rest ≡ cond a (Some mode) (cond a (Some e.1) rest)
+  put_here : (e : K × X) (rest : Option X) (a : Bool) → bytes_eq name (read k) ≡ a → bytes_eq name (read e.0) ≡ a
+      → cond a (Some x) rest ≡ cond a (Some x) (cond a (Some e.1) rest)
   put_here e rest true is_k is_e = refl
   put_here e rest false is_k is_e = refl
 
-  put_by_key : (e : K × PortMode) (es : List (K × PortMode)) (b : Bool) → bytes_eq (read k) (read e.0) ≡ b
-      → mode_named (insert_entry eq es k mode) read name ≡ cond (bytes_eq name (read k)) (Some mode) (mode_named es read name)
-      → mode_named (cond b ((e.0, mode) ∷ es) (e ∷ insert_entry eq es k mode)) read name ≡ cond (bytes_eq name (read k)) (Some mode) (mode_named (e ∷ es) read name)
+  put_by_key : (e : K × X) (es : List (K × X)) (b : Bool) → bytes_eq (read k) (read e.0) ≡ b
+      → value_named (insert_entry eq es k x) read name ≡ cond (bytes_eq name (read k)) (Some x) (value_named es read name)
+      → value_named (cond b ((e.0, x) ∷ es) (e ∷ insert_entry eq es k x)) read name ≡ cond (bytes_eq name (read k)) (Some x) (value_named (e ∷ es) read name)
   put_by_key e es true same before =
-      ap (λ b. cond b (Some mode) (mode_named es read name)) (sym (same_tests name (read k) (read e.0) same))
-      ∙ put_here e (mode_named es read name) (bytes_eq name (read k)) refl (sym (same_tests name (read k) (read e.0) same))
-      ∙ ap (λ b. cond (bytes_eq name (read k)) (Some mode) (cond b (Some e.1) (mode_named es read name))) (same_tests name (read k) (read e.0) same)
+      ap (λ b. cond b (Some x) (value_named es read name)) (sym (same_tests name (read k) (read e.0) same))
+      ∙ put_here e (value_named es read name) (bytes_eq name (read k)) refl (sym (same_tests name (read k) (read e.0) same))
+      ∙ ap (λ b. cond (bytes_eq name (read k)) (Some x) (cond b (Some e.1) (value_named es read name))) (same_tests name (read k) (read e.0) same)
   put_by_key e es false other before = put_behind e es (bytes_eq name (read e.0)) (bytes_eq name (read k)) refl refl other before
 
-  pub named_put : (es : List (K × PortMode)) → mode_named (insert_entry eq es k mode) read name ≡ cond (bytes_eq name (read k)) (Some mode) (mode_named es read name)
+  pub named_put : (es : List (K × X)) → value_named (insert_entry eq es k x) read name ≡ cond (bytes_eq name (read k)) (Some x) (value_named es read name)
   named_put [] = refl
   named_put (e ∷ es) = put_by_key e es (bytes_eq (read k) (read e.0)) refl (named_put es)
 
 -- the element in front of others
-swapped_tests : (a b : List ℕ) → bytes_eq a b ≡ bytes_eq b a
+pub swapped_tests : (a b : List ℕ) → bytes_eq a b ≡ bytes_eq b a
 swapped_tests a b = by_test (bytes_eq a b) (bytes_eq b a) refl refl
   where
     by_test : (p q : Bool) → bytes_eq a b ≡ p → bytes_eq b a ≡ q → p ≡ q
@@ -93,9 +93,9 @@ element_in_front xs left x name inside is =
 -- the table with one more element in front
 pub name_put : {K : Type 0} (read : K → List ℕ) (k : K) (x : ListedElement) (xs : List ListedElement) (left : ℕ) (old new : List (K × PortMode)) (name : List ℕ)
     → left < length xs → x ≡ get_or xs left x → read k ≡ x.name → new ≡ insert_entry (λ a b. bytes_eq (read a) (read b)) old k x.mode
-    → mode_named old read name ≡ first_named (drop (left + 1) xs) name → mode_named new read name ≡ first_named (drop left xs) name
+    → value_named old read name ≡ first_named (drop (left + 1) xs) name → value_named new read name ≡ first_named (drop left xs) name
 name_put read k x xs left old new name inside is is_name put before =
-    ap (λ es. mode_named es read name) put
+    ap (λ es. value_named es read name) put
     ∙ named_put read k x.mode name old
     ∙ ap (λ rest. cond (bytes_eq name (read k)) (Some x.mode) rest) before
     ∙ ap (λ a. cond (bytes_eq name a) (Some x.mode) (first_named (drop (left + 1) xs) name)) is_name

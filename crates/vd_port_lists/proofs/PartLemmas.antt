@@ -38,7 +38,7 @@ part_skipped t (suc k) (more n text place inside next) = part_skipped t k next
 
 -- ---- a facet of some meanings, as a list
 
-nth_or : {X : Type 0} → X → ℕ → List X → X
+abbrev pub nth_or : {X : Type 0} → X → ℕ → List X → X
 nth_or x k [] = x
 nth_or x zero (y ∷ ys) = y
 nth_or x (suc k) (y ∷ ys) = nth_or x k ys
@@ -47,8 +47,7 @@ last_or : {X : Type 0} → X → List X → X
 last_or x [] = x
 last_or x (y ∷ ys) = last_or y ys
 
-nth_of_facets : {X : Type 0} (g : Meaning → X) (k : ℕ) (ms : List Meaning) → g (facets.nth k ms) ≡ nth_or (g no_meaning) k (map g ms)
-unfolding nth_or
+pub nth_of_facets : {X : Type 0} (g : Meaning → X) (k : ℕ) (ms : List Meaning) → g (facets.nth k ms) ≡ nth_or (g no_meaning) k (map g ms)
 nth_of_facets g zero [] = refl
 nth_of_facets g (suc k) [] = refl
 nth_of_facets g zero (m ∷ ms) = refl
@@ -61,19 +60,19 @@ last_of_facets g m (l ∷ ms) = last_of_facets g l ms
 
 -- ---- one that hangs on the same facet of the parts alone is that of the meaning of the tree itself
 
-module _ {X : Type 0} (g : Meaning → X) (by : Passing → Resolved → List X → X)
-    (here : (k : Kind) (t : Table) (n : Resolved) (text : List ℕ) (ms : List Meaning) → g (meaning_of k t n text ms) ≡ by (passing k) n (map g ms))
+module _ {X : Type 0} (g : Meaning → X) (by : Kind → Resolved → List X → X)
+    (here : (k : Kind) (t : Table) (n : Resolved) (text : List ℕ) (ms : List Meaning) → g (meaning_of k t n text ms) ≡ by k n (map g ms))
     (kept : (k : elaborated.Kind) (n : Resolved) (m : Meaning) (ps : List Part) → g (part_of k n m ps).meaning ≡ g m) where
   facets_agree : (t : Table) (f : Forest Resolved) → map g (meant (parts t f)) ≡ map g (meanings t f)
   facets_agree t nothing = refl
   facets_agree t (more n text place inside next) =
       ap₂ (λ x xs. x ∷ xs)
       (kept (elaborated.kind n.form) n (meaning_of (kind n.form) t n text (meant (parts t inside))) (parts t inside)
-      ∙ here (kind n.form) t n text (meant (parts t inside)) ∙ ap (by (passing (kind n.form)) n) (facets_agree t inside)
+      ∙ here (kind n.form) t n text (meant (parts t inside)) ∙ ap (by (kind n.form) n) (facets_agree t inside)
       ∙ sym (here (kind n.form) t n text (meanings t inside)))
       (facets_agree t next)
 
-  facet_of_part : (t : Table) (k : ℕ) (f : Forest Resolved) → g (nth k (parts t f)).meaning ≡ g (facets.nth 0 (meanings t (skipped k f)))
+  pub facet_of_part : (t : Table) (k : ℕ) (f : Forest Resolved) → g (nth k (parts t f)).meaning ≡ g (facets.nth 0 (meanings t (skipped k f)))
   facet_of_part t k f =
       ap (λ p. g p.meaning) (part_skipped t k f)
       ∙ sym (ap g (nth_meant 0 (parts t (skipped k f))))
@@ -111,7 +110,7 @@ kept_declared _ n m ps = refl
 
 pub part_declared : (t : Table) (k : ℕ) (f : Forest Resolved) → (nth k (parts t f)).meaning.declaration ≡ declared_first t (skipped k f)
 part_declared =
-    facet_of_part (λ m. m.declaration) declared_among
+    facet_of_part (λ m. m.declaration) (λ k. declared_among (passing k))
     (λ k t n text ms. declaration_passed k t n text ms ∙ declared_by_passing (passing k) n ms)
     kept_declared
 
@@ -138,7 +137,7 @@ kept_present _ n m ps = refl
 
 pub part_present : (t : Table) (k : ℕ) (f : Forest Resolved) → (nth k (parts t f)).meaning.is_present ≡ present_first t (skipped k f)
 part_present =
-    facet_of_part (λ m. m.is_present) present_among
+    facet_of_part (λ m. m.is_present) (λ k. present_among (passing k))
     (λ k t n text ms. present_passed k t n text ms ∙ present_by_passing (passing k) n ms)
     kept_present
 

@@ -1,11 +1,11 @@
--- Modes by names, as a map has them, whose keys are read as texts; and as a list has them, of which the first counts.
+-- Values by names, as a map has them, whose keys are read as texts; and modes as a list of elements has them, of which the first counts.
 use Rattle.std.specs.Prelude.{List, None, Option, Some, [], bytes_eq, if◌then◌else◌, ℕ, ◌∷◌}
 use Rattle.std.specs.Map.{lookup}
 use Rattle.vd_port_lists.specs.declared.entries.ListedElement.{ListedElement}
 use Rattle.vd_port_lists.specs.declared.modes.PortMode.{PortMode}
 
-abbrev pub mode_named : {K : Type 0} → List (K × PortMode) → (K → List ℕ) → List ℕ → Option PortMode
-mode_named entries read name = lookup (λ key. bytes_eq name (read key)) entries
+abbrev pub value_named : {K X : Type 0} → List (K × X) → (K → List ℕ) → List ℕ → Option X
+value_named entries read name = lookup (λ key. bytes_eq name (read key)) entries
 
 abbrev pub first_named : List ListedElement → List ℕ → Option PortMode
 first_named [] name = None

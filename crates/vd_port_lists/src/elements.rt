@@ -4,7 +4,7 @@ ghost use Rattle.std.specs.Prelude.{◌≡◌, IfOk, OnOk, None, map, ℕ, List}
 ghost use Rattle.vd_elaboration.specs.Instances.{element_mode};
 ghost use Rattle.vd_port_lists.specs.Listed.{read_element};
 ghost use Rattle.vd_port_lists.specs.Modes.{read_mode};
-ghost use Rattle.vd_port_lists.specs.Named.{first_named, mode_named};
+ghost use Rattle.vd_port_lists.specs.Named.{first_named, value_named};
 
 use crate::entries::ListedElement;
 use crate::modes::{Mode, PortMode};
@@ -24,7 +24,7 @@ impl Model for Elements {
     ghost use Rattle.std.specs.Coded.{coded_list};
     ghost use Rattle.vd_port_lists.specs.declared.entries.ListedElement.{ListedElement};
     ghost use Rattle.vd_port_lists.specs.contracts.entries.ListedElement as entries;
-    ghost use Rattle.vd_port_lists.specs.Named.{first_named, mode_named};
+    ghost use Rattle.vd_port_lists.specs.Named.{first_named, value_named};
 
     ghost Value = { List ListedElement };
 
@@ -32,7 +32,7 @@ impl Model for Elements {
 
     ghost view = { λ a. a.listed.items };
 
-    ghost invariant = { λ a. (name : List ℕ) → mode_named a.modes.entries (λ key. key.items) name ≡ first_named a.listed.items name };
+    ghost invariant = { λ a. (name : List ℕ) → value_named a.modes.entries (λ key. key.items) name ≡ first_named a.listed.items name };
 }
 
 impl Elements {
@@ -75,7 +75,7 @@ fn modes_by_name(
     alloc: Global,
     listed: &[ListedElement],
 ) -> Result<IndexMap<Vec<u8>, PortMode>, AllocError>
-    ensures { IfOk result (λ modes. (name : List ℕ) → mode_named modes.entries (λ key. key.items) name ≡ first_named listed.now name) }
+    ensures { IfOk result (λ modes. (name : List ℕ) → value_named modes.entries (λ key. key.items) name ≡ first_named listed.now name) }
 {
     let mut modes = IndexMap::new(alloc);
     let mut left = listed.len();

@@ -1,0 +1,10 @@
+pub mod SeekLemmas
+pub mod NameLemmas
+pub mod FacetLemmas
+pub mod TextLemmas
+pub mod GenericLemmas
+pub mod PortLemmas
+pub mod ActualLemmas
+pub mod NeedLemmas
+pub mod TableLemmas
+pub mod LoopLemmas

@@ -1,0 +1,4 @@
+pub mod Needed
+pub mod Reading
+pub mod Seeking
+pub mod Tables
