@@ -10,7 +10,7 @@ ghost use Rattle.vd_trees.specs.declared.revision.Revision.TheVariants.{V1993, V
 ghost use Rattle.vd_weighing.specs.Limits.{at_most};
 ghost use Rattle.vd_weights.specs.Weights.{weight_of};
 
-use crate::judging::{Judged, judged};
+use crate::judging::{Judgement, judge};
 use std::alloc::{AllocError, Global};
 use std::marker::Model;
 use vd_bytes::Refusal;
@@ -72,13 +72,13 @@ impl Accepted {
 }
 
 /// The tree of a design that breaks no rule, or else the first rule that it breaks.
-fn answer(judged: Judged) -> Result<Tree, Refusal>
-    ensures { (r : AnyRevision) (units : Forest AnyForm) → judged.entry.tree ≡ resolved_design r units → judged.entry.first ≡ first_broken r units
+fn answer(found: Judgement) -> Result<Tree, Refusal>
+    ensures { (r : AnyRevision) (units : Forest AnyForm) → found.entry.tree ≡ resolved_design r units → found.entry.first ≡ first_broken r units
         → IsAnswer r units result }
 {
-    match judged.first {
+    match found.first {
         Some(refused) => Err(Refusal::Refused(refused)),
-        None => Ok(judged.tree),
+        None => Ok(found.tree),
     }
 }
 
@@ -86,8 +86,8 @@ fn answer(judged: Judged) -> Result<Tree, Refusal>
 fn accept(alloc: Global, revision: Revision, units: &Cursor<'_, Form>) -> Result<Tree, Refusal>
     ensures { IsAnswer revision units.now result }
 {
-    match judged(alloc, revision, units) {
-        Ok(judged) => answer(judged),
+    match judge(alloc, revision, units) {
+        Ok(found) => answer(found),
         Err(_) => Err(Refusal::Memory),
     }
 }

@@ -20,7 +20,7 @@ use vd_trees::Revision;
 
 /// A resolved design, and the first rule that it breaks.
 #[derive(Drop)]
-pub struct Judged {
+pub struct Judgement {
     pub tree: Tree,
     pub first: Option<Refused>,
 }
@@ -58,11 +58,11 @@ fn names_or_rules(
 
 /// A design of these units, resolved, with the first rule that it breaks. The rules on types, values and structure are asked where no rule on names is
 /// broken.
-pub fn judged(
+pub fn judge(
     alloc: Global,
     revision: Revision,
     units: &Cursor<'_, Form>,
-) -> Result<Judged, AllocError>
+) -> Result<Judgement, AllocError>
     ensures tree { IfOk result (λ design. design.tree ≡ resolved_design revision units.now) }
     ensures first { IfOk result (λ design. design.first ≡ first_broken revision units.now) }
 {
@@ -71,7 +71,7 @@ pub fn judged(
     let groups = first_of_groups(alloc, revision, &design.tree)?;
     let of_names = lesser(of_text, lesser(design.first, groups.of_names));
     let first = names_or_rules(alloc, revision, &design.tree, of_names, groups.of_rules)?;
-    Ok(Judged {
+    Ok(Judgement {
         tree: design.tree,
         first,
     })
