@@ -4,7 +4,6 @@ ghost use Rattle.std.specs.Prelude.{◌<◌, length};
 
 use std::alloc::Global;
 use vd_accepting::accept19;
-use vd_bytes::Refusal;
 use vd_directives::plain::plain;
 use vd_grammar19::read19;
 use vd_lex::lex19;
@@ -25,9 +24,8 @@ fn answered_short(alloc: Global, bytes: &[u8]) -> Answer
         Err(end) => return Answer::from(end),
     };
     match accept19(alloc, &design) {
-        Ok(_) => Answer::from(None),
-        Err(Refusal::Refused(refused)) => Answer::from(Some(refused)),
-        Err(Refusal::Memory) => Answer::Memory,
+        Ok(_) => Answer::Ok,
+        Err(end) => Answer::from(end),
     }
 }
 
