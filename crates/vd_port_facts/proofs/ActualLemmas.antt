@@ -104,7 +104,8 @@ module _ (t : Table) where
   pub element_is : (f : Forest Resolved) (formal : Option ℕ) (is_open : Bool) → formal ≡ (read_element (part_first t f)).formal → is_open ≡ open_at t f
       → record { formal = formal; is_open = is_open } ≡ read_element (part_first t f)
   element_is f formal is_open is_formal opens =
-      ap₂ (λ d b. record { formal = d; is_open = b }) is_formal (opens ∙ sym (part_open t 0 f))
+      let made : Option ℕ → Bool → ListedActual = λ d b. record { formal = d; is_open = b } in
+      ap₂ made is_formal (opens ∙ sym (part_open t 0 f))
 
   -- ---- the map
 

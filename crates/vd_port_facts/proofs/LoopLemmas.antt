@@ -1,14 +1,15 @@
 -- One more step of the loops that make the tables and lists.
-use Rattle.std.proofs.Common.{◌≡◌, ◌==◌, ◌<◌, ◌≤◌, ◌+◌, ◌++◌, ◌||◌, ◌⊎◌, inl, inr, ℕ, zero, suc, Bool, true, false, cond, List, [], ◌∷◌, Option, Some, None, min, get_or, drop, length, refl, sym, ap, ap₂, ◌∙◌, add-one, arith}
-use Rattle.std.proofs.lemmas.List.{drop_all, drop_more}
+use Rattle.std.proofs.Common.{◌≡◌, ◌==◌, ◌<◌, ◌≤◌, ◌+◌, ◌-◌, ◌++◌, ◌||◌, ◌⊎◌, inl, inr, ℕ, zero, suc, Bool, true, false, cond, List, [], ◌∷◌, Option, Some, None, min, get_or, drop, is_some, length, refl, sym, ap, ap₂, ◌∙◌, add-one, arith}
+use Rattle.std.proofs.lemmas.List.{append-nil, drop-drop, drop_all, drop_more, length-drop}
 use Rattle.std.proofs.lemmas.List.Folds.{list_any-append}
 use Rattle.std.proofs.lemmas.Bool.Decides.{nat_tests}
 use Rattle.std.specs.List.{list_any}
 use Rattle.std.specs.Prelude.{nat_le}
 use Rattle.std.specs.Str.{bytes_eq}
 use Rattle.indexmap.specs.IndexMap.{insert_entry}
-use Rattle.vd_port_facts.specs.Needed.{any_named, needed_by, with_names}
+use Rattle.vd_port_facts.specs.Needed.{AreMarks, any_named, is_no_placed, needed_by, with_names}
 use Rattle.vd_port_facts.specs.Tables.{last_place}
+use Rattle.vd_port_facts.specs.declared.actuals.ListedActual.{ListedActual}
 use Rattle.vd_port_facts.specs.declared.entities.ListedEntity.{ListedEntity}
 use Rattle.vd_port_lists.proofs.ElementLemmas.{named_put, swapped_tests}
 use Rattle.vd_port_lists.specs.Named.{value_named}
@@ -46,8 +47,8 @@ past_one k a b is = by (nat_le a b) refl
 pub needed_start : (k : ℕ) (dss defaults : List (List ℕ)) (named : List ℕ) → k ≡ min (length dss) (length defaults) → needed_by (drop k dss) (drop k defaults) named ≡ named
 needed_start k dss defaults named is =
     elim (past_one k (length dss) (length defaults) is) [
-      inl h ↦ ap (λ xs. needed_by xs (drop k defaults) named) (drop_all k dss h)
-    | inr h ↦ ap (λ xs. needed_by (drop k dss) xs named) (drop_all k defaults h) ∙ needed_alone (drop k dss) named
+      | inl h ↦ ap (λ xs. needed_by xs (drop k defaults) named) (drop_all k dss h)
+      | inr h ↦ ap (λ xs. needed_by (drop k dss) xs named) (drop_all k defaults h) ∙ needed_alone (drop k dss) named
     ]
 
 pub needed_step : (k : ℕ) (dss defaults : List (List ℕ)) (named ds names : List ℕ) → k < length dss → k < length defaults
@@ -74,7 +75,39 @@ needed_more k dss defaults named ds names found now takes inside within is are b
     ∙ sym (needed_step k dss defaults named ds names inside within is are)
 
 -- marks that are those of a list are those of the list with others in front
-pub marked_more : (names old now : List ℕ) (j : ℕ) (before after : Bool) → now ≡ names ++ old → before ≡ is_listed j old → after ≡ (is_listed j names || before)
-    → after ≡ is_listed j now
-marked_more names old now j before after is_now is_before is_after =
-    is_after ∙ ap (λ b. is_listed j names || b) is_before ∙ sym (list_any-append (λ m. m == j) names old) ∙ ap (is_listed j) (sym is_now)
+pub marked_more : (names old now : List ℕ) (before after : ℕ → Bool) → now ≡ names ++ old
+    → ((k : ℕ) → after k ≡ (is_listed k names || before k)) → AreMarks before old → AreMarks after now
+marked_more names old now before after is_now is_after marks = record {
+  are = λ k.
+      is_after k ∙ ap (λ b. is_listed k names || b) (marks.are k) ∙ sym (list_any-append (λ m. m == k) names old) ∙ ap (is_listed k) (sym is_now);
+}
+
+-- whether one of some is marked
+pub any_marked : (marked : ℕ → Bool) (ns ds : List ℕ) → AreMarks marked ns → list_any marked ds ≡ any_named ns ds
+any_marked marked ns ds marks = same_any marked (λ d. is_listed d ns) ds marks.are
+
+-- nothing is marked at first, and then what is named
+pub needed_first : (k : ℕ) (dss defaults : List (List ℕ)) (named found : List ℕ) → k ≡ min (length dss) (length defaults) → found ≡ named ++ []
+    → found ≡ needed_by (drop k dss) (drop k defaults) named
+needed_first k dss defaults named found is is_found = is_found ∙ append-nil named ∙ sym (needed_start k dss defaults named is)
+
+-- ---- places of actuals
+
+pub behind_one : (xs : List ListedActual) (place count : ℕ) → drop (place + count) xs ≡ drop count (drop place xs)
+behind_one xs place count = sym (drop-drop count place xs)
+
+pub behind_all : (xs : List ListedActual) (place count whole : ℕ) → whole ≡ length xs → length xs - place ≤ count → drop whole xs ≡ drop count (drop place xs)
+behind_all xs place count whole is past =
+    drop_all whole xs (omega (arith, is)) ∙ sym (drop_all count (drop place xs) (omega (arith, past, length-drop place xs)))
+
+pub ruleset places_behind = (behind_one, behind_all)
+
+-- the actuals from a place on
+pub placed_here : (xs : List ListedActual) (place : ℕ) (x : ListedActual) → place < length xs → x ≡ get_or xs place x
+    → is_no_placed (drop place xs) ≡ (is_some x.formal || x.is_open)
+placed_here xs place x inside is = ap is_no_placed (drop_more xs place x inside) ∙ ap (λ y. is_some y.formal || y.is_open) (sym is)
+
+pub placed_past : (xs : List ListedActual) (place : ℕ) → length xs ≤ place → is_no_placed (drop place xs) ≡ true
+placed_past xs place past = ap is_no_placed (drop_all place xs past)
+
+pub ruleset placed_actuals = (placed_here, placed_past)

@@ -16,8 +16,8 @@ use Rattle.vd_meaning.specs.Tables.{Table, table}
 use Rattle.vd_port_facts.proofs.FacetLemmas.{part_numbers}
 use Rattle.vd_port_facts.proofs.NameLemmas.{part_named}
 use Rattle.vd_port_facts.proofs.SeekLemmas.{node_alone, node_then}
-use Rattle.vd_port_facts.specs.Reading.{read_ports}
-use Rattle.vd_port_facts.specs.Seeking.{lists_in_list, lists_in_unit, lists_inside, port_seeker, ports_at, ports_by}
+use Rattle.vd_port_facts.specs.Reading.{named_first, numbers_first, read_ports}
+use Rattle.vd_port_facts.specs.Seeking.{lists_in_list, lists_in_unit, port_seeker, ports_by}
 use Rattle.vd_port_facts.specs.declared.ports.ListedPorts.{ListedPorts}
 use Rattle.vd_port_facts.specs.declared.ports.PortTrees.{PortTrees}
 use Rattle.vd_port_facts.specs.declared.ports.PortTrees.TheVariants.{FirstList, Lists, NoLists, SecondList, ThirdList, Units}
@@ -69,20 +69,23 @@ module _ (t : Table) where
   unit_step form.PackageInstantiation n m inside = refl
   unit_step _ n m inside = gathered_through (λ us. map read_ports (ports_in us)) (λ p. p.units) refl units_joined (parts t inside)
 
-  one_by : (numbers ns : List ℕ) (a b : Bool) (names ms : List ℕ) → numbers ≡ ns → a ≡ b → names ≡ ms
-      → record { numbers = numbers; has_default = a; named = names } ∷ [] ≡ record { numbers = ns; has_default = b; named = ms } ∷ []
+  abbrev one_of : List ℕ → Bool → List ℕ → List ListedPorts
+  one_of numbers has_default names = record { numbers = numbers; has_default = has_default; named = names } ∷ []
+
+  one_by : (numbers ns : List ℕ) (a b : Bool) (names ms : List ℕ) → numbers ≡ ns → a ≡ b → names ≡ ms → one_of numbers a names ≡ one_of ns b ms
   one_by numbers ns a b names ms is_numbers is_default is_names =
-      ap₂ (λ xs y. record { numbers = xs; has_default = y; named = names } ∷ []) is_numbers is_default
-      ∙ ap (λ zs. record { numbers = ns; has_default = b; named = zs } ∷ []) is_names
+      ap₂ (λ xs y. one_of xs y names) is_numbers is_default ∙ ap (one_of ns b) is_names
 
   list_step : (f : Form) (n : Resolved) (m : Meaning) (inside : Forest Resolved)
       → map read_ports (part_of (elaborated.kind f) n m (parts t inside)).ports ≡ with_answer (ports_by f t inside) (seen (lists_in_list f) inside)
   list_step form.PortDeclaration n m inside =
       let d = (nth 4 (parts t inside)).meaning in
-      one_by (nth 1 (parts t inside)).meaning.numbers _ (is_some (cond d.is_present (Some d.value) None)) _ (nth 3 (parts t inside)).named _
+      one_by (nth 1 (parts t inside)).meaning.numbers (numbers_first t (skipped 1 inside)) (is_some (cond d.is_present (Some d.value) None)) (present_first t (skipped 4 inside))
+      (nth 3 (parts t inside)).named (named_first t (skipped 3 inside))
       (part_numbers t 1 inside) (default_is_there d.is_present d.value ∙ part_present t 4 inside) (part_named t 3 inside)
   list_step form.ViewPort n m inside =
-      one_by (nth 1 (parts t inside)).meaning.numbers _ false _ (nth 4 (parts t inside)).named _ (part_numbers t 1 inside) refl (part_named t 4 inside)
+      one_by (nth 1 (parts t inside)).meaning.numbers (numbers_first t (skipped 1 inside)) false false (nth 4 (parts t inside)).named (named_first t (skipped 4 inside))
+      (part_numbers t 1 inside) refl (part_named t 4 inside)
   list_step _ n m inside = gathered_through (map read_ports) (λ p. p.ports) refl (map-append read_ports) (parts t inside)
 
   in_unit : (n : Resolved) (text : List ℕ) (place : Place) (inside : Forest Resolved)

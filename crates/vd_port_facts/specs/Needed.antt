@@ -1,5 +1,5 @@
 -- Which generics an instance leaves out, and what is named then.
-use Rattle.std.specs.Prelude.{Bool, List, None, Option, Some, [], drop, if◌then◌else◌, is_some, length, true, ℕ, ◌++◌, ◌||◌, ◌∷◌}
+use Rattle.std.specs.Prelude.{◌≡◌, Bool, List, None, Option, Some, [], drop, if◌then◌else◌, is_some, length, true, ℕ, ◌++◌, ◌||◌, ◌∷◌}
 use Rattle.std.specs.List.{list_any}
 use Rattle.vd_meaning.specs.Tables.{same_type}
 use Rattle.vd_port_facts.specs.declared.actuals.ListedActual.{ListedActual}
@@ -43,3 +43,7 @@ with_names takes names named = if takes then names ++ named else named
 abbrev pub needed_by : List (List ℕ) → List (List ℕ) → List ℕ → List ℕ
 needed_by (ds ∷ dss) (names ∷ rest) named = with_names (any_named (needed_by dss rest named) ds) names (needed_by dss rest named)
 needed_by _ _ named = named
+
+-- whether those of a list are marked, and no others
+pub record AreMarks (marked : ℕ → Bool) (ns : List ℕ) : Type 0 where
+  pub are : (k : ℕ) → marked k ≡ is_listed k ns

@@ -5,7 +5,7 @@ ghost use Rattle.std.specs.HashMap.{get};
 ghost use Rattle.vd_elaboration.specs.Parts.{parts as parts_of};
 ghost use Rattle.vd_forest.specs.Forest.{skipped};
 ghost use Rattle.vd_meaning.specs.Tables.{Table};
-ghost use Rattle.vd_port_facts.specs.Needed.{is_no_placed, left_out, open_for};
+ghost use Rattle.vd_port_facts.specs.Needed.{is_no_placed as no_placed, left_out, open_for};
 ghost use Rattle.vd_port_facts.specs.Reading.{actuals_by as actuals_of_form, formal_by as formal_of_form, formal_first, is_map as maps, part_first, read_actual, read_element};
 
 use crate::trees::last_of;
@@ -79,10 +79,7 @@ fn element_of_first(trees: &Cursor<'_, Resolved>) -> ListedActual
 }
 
 /// The elements of a map.
-fn elements_in(
-    alloc: Global,
-    trees: &Cursor<'_, Resolved>,
-) -> Result<Vec<ListedActual>, AllocError>
+fn elements_in(alloc: Global, trees: &Cursor<'_, Resolved>) -> Result<Vec<ListedActual>, AllocError>
     ensures { IfOk result (λ found. (t : Table) → found.items ≡ map read_element (parts_of t trees.now)) }
 {
     let mut found = Vec::new(alloc);
@@ -133,10 +130,7 @@ fn actuals_of_first(
 }
 
 /// Which generics are named, and whether the first actual that names each is `open`. The last is put first, so that the first counts.
-fn opens_of(
-    alloc: Global,
-    listed: &[ListedActual],
-) -> Result<HashMap<u32, bool>, AllocError>
+fn opens_of(alloc: Global, listed: &[ListedActual]) -> Result<HashMap<u32, bool>, AllocError>
     ensures { IfOk result (λ opens. (n : ℕ) → get nat_eq opens n ≡ open_for listed.now n) }
 {
     let mut opens = HashMap::new(alloc);
@@ -148,6 +142,32 @@ fn opens_of(
         }
     }
     Ok(opens)
+}
+
+/// Whether no actual stands at a place alone.
+#[tactic(auto, using(crate::proofs::LoopLemmas::placed_actuals))]
+fn is_no_placed(listed: &[ListedActual], place: usize) -> bool
+    ensures { result ≡ no_placed (drop place listed.now) }
+{
+    if place < listed.len() {
+        let actual = listed[place];
+        actual.formal.is_some() || actual.is_open
+    } else {
+        true
+    }
+}
+
+/// The place so many behind another, or one behind all.
+#[tactic(auto, using(crate::proofs::LoopLemmas::places_behind))]
+fn place_behind(listed: &[ListedActual], place: usize, count: usize) -> usize
+    ensures { drop result listed.now ≡ drop count (drop place listed.now) }
+{
+    let rest = listed.len().saturating_sub(place);
+    if count < rest {
+        place + count
+    } else {
+        listed.len()
+    }
 }
 
 /// The actuals of an instance. Contracts see the list of them.
@@ -180,23 +200,13 @@ impl Actuals {
         Ok(Actuals { listed, opens })
     }
 
-    /// Whether no actual stands at a place alone.
-    fn is_no_placed(&self, place: usize) -> bool
-        ensures { result ≡ is_no_placed (drop place self.now) }
-    {
-        match self.listed.get(place) {
-            Some(actual) => actual.formal.is_some() || actual.is_open,
-            None => true,
-        }
-    }
-
     /// Whether a generic has no actual, of which the one at its place is this.
     pub fn leaves_out(&self, place: usize, number: DeclId) -> bool
-        ensures { result ≡ left_out (open_for self.now number) (is_no_placed (drop place self.now)) }
+        ensures { result ≡ left_out (open_for self.now number) (no_placed (drop place self.now)) }
     {
         match self.opens.get(&number.number()) {
             Some(is_open) => *is_open,
-            None => self.is_no_placed(place),
+            None => is_no_placed(&self.listed, place),
         }
     }
 
@@ -204,11 +214,6 @@ impl Actuals {
     pub fn place_behind(&self, place: usize, count: usize) -> usize
         ensures { drop result self.now ≡ drop count (drop place self.now) }
     {
-        let whole = self.listed.len();
-        if place < whole && count < whole - place {
-            place + count
-        } else {
-            whole
-        }
+        place_behind(&self.listed, place, count)
     }
 }

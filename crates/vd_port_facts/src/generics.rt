@@ -4,6 +4,7 @@ ghost use Rattle.std.specs.Prelude.{◌≡◌, IfOk};
 ghost use Rattle.vd_meaning.specs.Tables.{Table, table};
 ghost use Rattle.vd_port_facts.specs.Seeking.{default_by as default_of_form, default_seeker, generics_at, inside_defaults as defaults_inside, inside_objects as objects_inside, names_part as part_with_names, object_seeker, objects_by as objects_of_part};
 
+use crate::names::names_of_first;
 use std::alloc::{AllocError, Global};
 use std::marker::Model;
 use vd_declarations::{Declaration, Declarations};
@@ -15,8 +16,6 @@ use vd_function_names::numbers::numbers_of_first;
 use vd_gathering::find_all;
 use vd_resolved::Resolved;
 use vd_trees::Revision;
-
-use crate::names::names_of_first;
 
 /// Lists of declarations, in their order. Contracts see the list of these lists.
 #[derive(Drop)]

@@ -4,7 +4,7 @@ ghost use Rattle.std.specs.Prelude.{◌≡◌, ◌++◌, ◌||◌, IfOk, OnOk, f
 ghost use Rattle.std.specs.HashMap.{get};
 ghost use Rattle.std.specs.List.{list_any};
 ghost use Rattle.std.specs.Option.{unwrap_or};
-ghost use Rattle.vd_port_facts.specs.Needed.{needed_by};
+ghost use Rattle.vd_port_facts.specs.Needed.{AreMarks, needed_by, with_names};
 ghost use Rattle.vd_value_rules.specs.Designs.{is_listed};
 
 use std::alloc::{AllocError, Global};
@@ -55,6 +55,24 @@ fn put_in_front(found: &mut Vec<DeclId>, numbers: &[DeclId]) -> Result<(), Alloc
     Ok(())
 }
 
+/// Puts names in front of others, where they are taken, and marks them.
+fn add_names(
+    found: &mut Vec<DeclId>,
+    marks: &mut HashMap<u32, bool>,
+    takes: bool,
+    names: &[DeclId],
+) -> Result<(), AllocError>
+    ensures listed { OnOk result (reverse found.new.items ≡ with_names takes names.now (reverse found.old.items)) }
+    ensures marked { OnOk result (AreMarks (λ k. unwrap_or (get nat_eq marks.old k) false) (reverse found.old.items)
+        → AreMarks (λ k. unwrap_or (get nat_eq marks.new k) false) (reverse found.new.items)) }
+{
+    if takes {
+        put_in_front(found, names)?;
+        mark(marks, names)?;
+    }
+    Ok(())
+}
+
 /// What is named where some declarations are named and generics are left out: from the last generic on, what its default names is put in front where it is
 /// named itself.
 pub(crate) fn needed(
@@ -67,16 +85,12 @@ pub(crate) fn needed(
 {
     let mut found = Vec::new(alloc);
     let mut marks = HashMap::new(alloc);
-    put_in_front(&mut found, named)?;
-    mark(&mut marks, named)?;
+    add_names(&mut found, &mut marks, true, named)?;
     let mut left = lefts.len().min(defaults.len());
     while left > 0 {
         left -= 1;
-        if any_marked(&marks, lefts[left].as_slice()) {
-            let names = defaults[left].as_slice();
-            put_in_front(&mut found, names)?;
-            mark(&mut marks, names)?;
-        }
+        let takes = any_marked(&marks, lefts[left].as_slice());
+        add_names(&mut found, &mut marks, takes, defaults[left].as_slice())?;
     }
     found.reverse();
     Ok(found)

@@ -1,8 +1,7 @@
-use Rattle.std.proofs.Common.{◌≡◌, ◌≤◌, ℕ, drop, false, length, nat_eq, reverse}
+use Rattle.std.proofs.Common.{◌≡◌, ◌≤◌, drop, false, length, nat_eq, reverse}
 use Rattle.std.specs.HashMap.{get}
 use Rattle.std.specs.Option.{unwrap_or}
-use Rattle.vd_port_facts.specs.Needed.{needed_by}
-use Rattle.vd_value_rules.specs.Designs.{is_listed}
+use Rattle.vd_port_facts.specs.Needed.{AreMarks, needed_by}
 use Rattle.vd_port_facts.proofs.needs.needed.Given as goal
 
 abbrev pub invariant-loop-left : goal.invariant-loop-left
@@ -10,7 +9,7 @@ invariant-loop-left l = record {
   within : l.left ≤ length l.lefts;
   within_defaults : l.left ≤ length l.defaults;
   put : reverse l.found.items ≡ needed_by (drop l.left l.lefts) (drop l.left l.defaults) l.named;
-  marked : (k : ℕ) → unwrap_or (get nat_eq l.marks k) false ≡ is_listed k (reverse l.found.items);
+  marked : AreMarks (λ k. unwrap_or (get nat_eq l.marks k) false) (reverse l.found.items);
 }
 
 abbrev pub decreases-loop-left : goal.decreases-loop-left
