@@ -99,7 +99,7 @@ module _ (t : Table) where
       ≡ with_answer (entity_by f t inside) (seen t (λ n parts. entity_by n.form t parts) inside_unit entities_value (inside_unit f) inside)
   entity_step form.EntityDeclaration n m inside =
       let made : List (List ℕ) → List (List ℕ) → List ListedEntity =
-          λ objects defaults. record { name = (nth 0 (parts t inside)).meaning.text; generics = record { objects = objects; defaults = defaults } } ∷ [] in
+      λ objects defaults. record { name = (nth 0 (parts t inside)).meaning.text; generics = record { objects = objects; defaults = defaults } } ∷ [] in
       ap₂ made
       (ap objects_value (part_skipped t 1 inside) ∙ sym (objects_found (skipped 1 inside)))
       (ap defaults_value (part_skipped t 1 inside) ∙ sym (defaults_found (skipped 1 inside)))

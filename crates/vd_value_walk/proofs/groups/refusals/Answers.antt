@@ -7,19 +7,19 @@ use Rattle.vd_value_walk.proofs.WalkLemmas.{ready_kept}
 use Rattle.vd_value_walk.proofs.groups.refusals.Goals as goal
 
 pub aggregate_refusals-requires : goal.aggregate_refusals-requires
-aggregate_refusals-requires c = record { ready = ready_kept c.args.design.now _ c.requires.ready (λ d ks knows. c.in_ok-choices.ensures.knows d ks knows); }
+aggregate_refusals-requires c = record { ready = ready_kept c.args.design.now _ c.requires.ready (λ d ks knows. c.in_ok-choices.ensures.knows d ks knows) }
 
 pub static_refusals-requires : goal.static_refusals-requires
-static_refusals-requires c = record { ready = ready_kept c.args.design.now _ c.requires.ready (λ d ks knows. c.in_ok-aggregates.ensures.knows d ks (c.in_ok-choices.ensures.knows d ks knows)); }
+static_refusals-requires c = record { ready = ready_kept c.args.design.now _ c.requires.ready (λ d ks knows. c.in_ok-aggregates.ensures.knows d ks (c.in_ok-choices.ensures.knows d ks knows)) }
 
 pub bound_refusals-requires : goal.bound_refusals-requires
-bound_refusals-requires c = record { ready = ready_kept c.args.design.now _ c.requires.ready (λ d ks knows. c.in_ok-statics.ensures.knows d ks (c.in_ok-aggregates.ensures.knows d ks (c.in_ok-choices.ensures.knows d ks knows))); }
+bound_refusals-requires c = record { ready = ready_kept c.args.design.now _ c.requires.ready (λ d ks knows. c.in_ok-statics.ensures.knows d ks (c.in_ok-aggregates.ensures.knows d ks (c.in_ok-choices.ensures.knows d ks knows))) }
 
 pub instance_refusals-requires : goal.instance_refusals-requires
-instance_refusals-requires c = record { ready = ready_kept c.args.design.now _ c.requires.ready (λ d ks knows. c.in_ok-bounds.ensures.knows d ks (c.in_ok-statics.ensures.knows d ks (c.in_ok-aggregates.ensures.knows d ks (c.in_ok-choices.ensures.knows d ks knows)))); same = c.requires.same; }
+instance_refusals-requires c = record { ready = ready_kept c.args.design.now _ c.requires.ready (λ d ks knows. c.in_ok-bounds.ensures.knows d ks (c.in_ok-statics.ensures.knows d ks (c.in_ok-aggregates.ensures.knows d ks (c.in_ok-choices.ensures.knows d ks knows)))); same = c.requires.same }
 
 pub type_refusals-requires : goal.type_refusals-requires
-type_refusals-requires c = record { ready = ready_kept c.args.design.now _ c.requires.ready (λ d ks knows. c.in_ok-instances.ensures.knows d ks (c.in_ok-bounds.ensures.knows d ks (c.in_ok-statics.ensures.knows d ks (c.in_ok-aggregates.ensures.knows d ks (c.in_ok-choices.ensures.knows d ks knows))))); }
+type_refusals-requires c = record { ready = ready_kept c.args.design.now _ c.requires.ready (λ d ks knows. c.in_ok-instances.ensures.knows d ks (c.in_ok-bounds.ensures.knows d ks (c.in_ok-statics.ensures.knows d ks (c.in_ok-aggregates.ensures.knows d ks (c.in_ok-choices.ensures.knows d ks knows))))) }
 
 pub returns-clause-finds : goal.returns-clause-finds
 returns-clause-finds c = λ s ks knows around.
