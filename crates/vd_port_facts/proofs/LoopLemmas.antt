@@ -91,6 +91,16 @@ pub needed_first : (k : ℕ) (dss defaults : List (List ℕ)) (named found : Lis
     → found ≡ needed_by (drop k dss) (drop k defaults) named
 needed_first k dss defaults named found is is_found = is_found ∙ append-nil named ∙ sym (needed_start k dss defaults named is)
 
+-- where nothing is marked and nothing stands
+pub nothing_marked : (marked : ℕ → Bool) (ns : List ℕ) → ((k : ℕ) → marked k ≡ false) → ns ≡ [] → AreMarks marked ns
+nothing_marked marked ns none empty = record { are = λ k. none k ∙ sym (ap (is_listed k) empty) }
+
+pub least_left : (a b : ℕ) → min a b ≤ a
+least_left a b = omega arith
+
+pub least_right : (a b : ℕ) → min a b ≤ b
+least_right a b = omega arith
+
 -- ---- places of actuals
 
 pub behind_one : (xs : List ListedActual) (place count : ℕ) → drop (place + count) xs ≡ drop count (drop place xs)
