@@ -1,0 +1,9 @@
+mod ExpressionLemmas
+mod FirstLemmas
+mod InstanceLemmas
+mod LoopLemmas
+mod ModeLemmas
+mod ReadyLemmas
+mod SameLemmas
+mod ScalarLemmas
+mod SeenLemmas

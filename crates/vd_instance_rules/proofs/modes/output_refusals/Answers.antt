@@ -1,0 +1,40 @@
+use Rattle.std.proofs.Common.{◌∙◌, ap, not, sym}
+use Rattle.vd_instance_rules.proofs.FirstLemmas.{found_same, joined_with}
+use Rattle.vd_instance_rules.specs.Instances.{design_at, port_map_at, read_association, whole_or_disagrees}
+use Rattle.vd_port_associations.specs.Associations.{read_actual}
+use Rattle.vd_port_associations.specs.declared.actuals.ActualSort.{ActualSort}
+use Rattle.vd_port_lists.specs.Modes.{read_plain}
+use Rattle.vd_port_modes.specs.Readings.{read_oriented, read_reached}
+use Rattle.vd_port_modes.specs.Source.{Source, design_in}
+use Rattle.vd_rule_groups.specs.Groups.{firsts_of}
+use Rattle.vd_value_rules.specs.Judging.{refused_if}
+use Rattle.vd_value_rules.specs.Actuals.{output_broken}
+use Rattle.vd_value_rules.specs.Designs.{Oriented}
+use Rattle.vd_value_rules.specs.Names.{names_view_port}
+use Rattle.vd_instance_rules.proofs.modes.output_refusals.Goals as goal
+
+pub returns-in-NoActual : goal.returns-in-NoActual
+returns-in-NoActual c =
+    c.nothing_refused.ensures ∙ ap (λ (s : ActualSort). firsts_of (output_broken (design_in c.args.interfaces.now) (read_plain c.args.mode) (read_association c.args.association.now) (read_actual s))) (sym c.in-NoActual.is)
+
+pub returns-in-SignalNamed : goal.returns-in-SignalNamed
+returns-in-SignalNamed c =
+    let d = design_in c.args.interfaces.now in
+    let r = read_reached c.in-SignalNamed.name in
+    found_same _ _ c.whole_or_disagreeing.result
+    (ap (λ b. firsts_of (whole_or_disagrees b d (read_oriented c.straight-formal.result) c.in-SignalNamed.place r)) c.names_view_port-is_whole.ensures
+    ∙ ap (λ (o : Oriented). firsts_of (whole_or_disagrees (names_view_port d r) d o c.in-SignalNamed.place r)) c.straight-formal.ensures
+    ∙ ap (λ (s : ActualSort). firsts_of (output_broken (design_in c.args.interfaces.now) (read_plain c.args.mode) (read_association c.args.association.now) (read_actual s))) (sym c.in-SignalNamed.is))
+    c.whole_or_disagreeing.ensures
+
+pub returns-in-SignalConverted : goal.returns-in-SignalConverted
+returns-in-SignalConverted c =
+    c.converted_refusals.ensures ∙ ap (λ (s : ActualSort). firsts_of (output_broken (design_in c.args.interfaces.now) (read_plain c.args.mode) (read_association c.args.association.now) (read_actual s))) (sym c.in-SignalConverted.is)
+
+pub returns-in-SignalPassed : goal.returns-in-SignalPassed
+returns-in-SignalPassed c =
+    c.firsts_if.ensures ∙ ap (λ (s : ActualSort). firsts_of (output_broken (design_in c.args.interfaces.now) (read_plain c.args.mode) (read_association c.args.association.now) (read_actual s))) (sym c.in-SignalPassed.is)
+
+pub returns-in-AnExpression : goal.returns-in-AnExpression
+returns-in-AnExpression c =
+    c.firsts_if-in-AnExpression.ensures ∙ ap (λ (s : ActualSort). firsts_of (output_broken (design_in c.args.interfaces.now) (read_plain c.args.mode) (read_association c.args.association.now) (read_actual s))) (sym c.in-AnExpression.is)
