@@ -55,7 +55,7 @@ six r tree =
     ∙ ap (joined_firsts (firsts_by bounds r tree)) (firsts_of_either instances types r tree))))
 
 -- the order in which the groups are put together
-pub all_together : (r : Revision) (tree : ResolvedTree)
+all_together : (r : Revision) (tree : ResolvedTree)
     → joined_firsts (firsts_by names_used r tree) (joined_firsts (firsts_by names_in_functions r tree) (joined_firsts (firsts_by assignments r tree)
     (joined_firsts (firsts_by asked r tree) (joined_firsts (firsts_by bodies r tree) (joined_firsts (firsts_by view_ports r tree) (firsts_by operators r tree))))))
     ≡ firsts_of (broken_in r tree)
@@ -65,3 +65,12 @@ all_together r tree =
     ∙ nine_firsts (firsts_by choices r tree) (firsts_by aggregates r tree) (firsts_by static_expressions r tree) (firsts_by bounds r tree)
     (firsts_by instances r tree) (firsts_by types r tree) (firsts_by bodies r tree) (firsts_by view_ports r tree) (firsts_by operators r tree))
     ∙ groups_are_all r tree
+
+-- the first refusals of each are those of all
+pub groups_joined : (r : Revision) (tree : ResolvedTree) (n f a v b p o : Firsts)
+    → n ≡ firsts_by names_used r tree → f ≡ firsts_by names_in_functions r tree → a ≡ firsts_by assignments r tree → v ≡ firsts_by asked r tree
+    → b ≡ firsts_by bodies r tree → p ≡ firsts_by view_ports r tree → o ≡ firsts_by operators r tree
+    → joined_firsts n (joined_firsts f (joined_firsts a (joined_firsts v (joined_firsts b (joined_firsts p o))))) ≡ firsts_of (broken_in r tree)
+groups_joined r tree n f a v b p o is_n is_f is_a is_v is_b is_p is_o =
+    ap₂ joined_firsts is_n (ap₂ joined_firsts is_f (ap₂ joined_firsts is_a (ap₂ joined_firsts is_v (ap₂ joined_firsts is_b (ap₂ joined_firsts is_p is_o)))))
+    ∙ all_together r tree

@@ -73,7 +73,7 @@ impl Accepted {
 
 /// The tree of a design that breaks no rule, or else the first rule that it breaks.
 fn answer(found: Judgement) -> Result<Tree, Refusal>
-    ensures { (r : AnyRevision) (units : Forest AnyForm) → found.entry.tree ≡ resolved_design r units → found.entry.first ≡ first_broken r units
+    ensures { (r : AnyRevision) (units : Forest AnyForm) → found.tree ≡ resolved_design r units → found.first ≡ first_broken r units
         → IsAnswer r units result }
 {
     match found.first {

@@ -16,7 +16,6 @@ use vd_trees::Revision;
 use vd_value_walk::value_refusals;
 
 /// The first refusals of all groups of rules.
-#[tactic(auto, using(crate::proofs::GroupLemmas::all_together))]
 pub fn first_of_groups(alloc: Global, revision: Revision, tree: &Tree) -> Result<Firsts, AllocError>
     ensures { IfOk result (λ found. found ≡ firsts_of (broken_in revision tree.now)) }
 {
