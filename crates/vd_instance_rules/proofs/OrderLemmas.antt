@@ -11,16 +11,16 @@ abbrev order_behind : Bool → Bool → Forest Resolved → Bool
 order_behind named here next = if here then are_in_order true next else not named && are_in_order false next
 
 order_kept : (named here : Bool) (next : Forest Resolved) → (named && not here) ≡ false → are_in_order here next ≡ order_behind named here next
-order_kept true true next no = refl
-order_kept false true next no = refl
-order_kept false false next no = refl
-order_kept true false next no = absurd (false≢true (sym no))
+order_kept true true next fails = refl
+order_kept false true next fails = refl
+order_kept false false next fails = refl
+order_kept true false next fails = absurd (false≢true (sym fails))
 
 order_lost : (named here : Bool) (next : Forest Resolved) → (named && not here) ≡ true → false ≡ order_behind named here next
-order_lost true false next yes = refl
-order_lost true true next yes = absurd (false≢true yes)
-order_lost false true next yes = absurd (false≢true yes)
-order_lost false false next yes = absurd (false≢true yes)
+order_lost true false next holds = refl
+order_lost true true next holds = absurd (false≢true holds)
+order_lost false true next holds = absurd (false≢true holds)
+order_lost false false next holds = absurd (false≢true holds)
 
 module _ (f : Forest Resolved) (named : Bool) (n : Resolved) (text : List ℕ) (place : Place) (parts next : Forest Resolved) (all here late : Bool)
     (is : f ≡ more n text place parts next) (here_is : here ≡ is_association_form n.form) (late_is : late ≡ (named && not here))
@@ -29,10 +29,10 @@ module _ (f : Forest Resolved) (named : Bool) (n : Resolved) (text : List ℕ) (
   order_there = ap (λ b. order_behind named b next) here_is ∙ sym (ap (are_in_order named) is) ∙ before
 
   pub order_more : late ≡ false → are_in_order here next ≡ all
-  order_more no = order_kept named here next (sym late_is ∙ no) ∙ order_there
+  order_more fails = order_kept named here next (sym late_is ∙ fails) ∙ order_there
 
   pub order_broken : late ≡ true → false ≡ all
-  order_broken yes = order_lost named here next (sym late_is ∙ yes) ∙ order_there
+  order_broken holds = order_lost named here next (sym late_is ∙ holds) ∙ order_there
 
 pub order_end : (f : Forest Resolved) (named all : Bool) → f ≡ nothing → are_in_order named f ≡ all → true ≡ all
 order_end f named all is before = sym (ap (are_in_order named) is) ∙ before
