@@ -7,8 +7,8 @@ use Rattle.vd_rule_groups.specs.Groups.{firsts_of}
 use Rattle.vd_value_rules.specs.Actuals.{formal_broken}
 use Rattle.vd_instance_rules.proofs.associations.association_refusals.Goals as goal
 
-pub returns-then-is_read-clause-refused : goal.returns-then-is_read-clause-refused
-returns-then-is_read-clause-refused c = λ k ks knows.
+pub returns-in_ok-actual-clause-refused : goal.returns-in_ok-actual-clause-refused
+returns-in_ok-actual-clause-refused c = λ k ks knows.
     let d = design_at c.args.instance.now in
     let m = port_map_at c.args.instance.now in
     let a = read_association c.args.association.now in
