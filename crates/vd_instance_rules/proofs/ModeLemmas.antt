@@ -1,5 +1,5 @@
 -- Conversions of signals as actuals.
-use Rattle.std.proofs.Common.{◌&&◌, ◌==◌, ◌≡◌, ◌∙◌, ◌∷◌, Bool, Bor, List, [], ap, false, if◌then◌else◌, length, not, refl, sym, true, ℕ}
+use Rattle.std.proofs.Common.{◌&&◌, ◌==◌, ◌≡◌, ◌∙◌, ◌∷◌, Bool, Bor, List, [], ap, false, if◌then◌else◌, length, not, refl, suc, sym, true, ℕ}
 use Rattle.vd_bytes.specs.declared.places.Place.{Place}
 use Rattle.vd_elaboration.specs.Building.{Mode}
 use Rattle.vd_instance_rules.specs.Instances.{converted_output}
@@ -24,13 +24,13 @@ module _ (d : Design) (m : Mode) (mark : ℕ) (place : Place) (r : Reached) (ass
 
 -- ---- names with fields
 
-none_read : (xs : List (Bor (List ℕ))) → (length (read_fields xs) == 0) ≡ (length xs == 0)
-none_read [] = refl
-none_read (x ∷ xs) = refl
+read_length : (xs : List (Bor (List ℕ))) → length (read_fields xs) ≡ length xs
+read_length [] = refl
+read_length (x ∷ xs) = ap suc (read_length xs)
 
 -- a name with a view has fields where it has some as it is written
 pub part_of_view : (d : Design) (r : WrittenReached) (viewed empty : Bool) → viewed ≡ names_view_port d (read_reached r) → viewed ≡ true
     → empty ≡ (length r.fields.items == 0) → not empty ≡ is_part_of_view d (read_reached r)
 part_of_view d r viewed empty viewed_is holds empty_is =
-    ap not (empty_is ∙ sym (none_read r.fields.items))
+    ap not (empty_is ∙ ap (λ n. n == 0) (sym (read_length r.fields.items)))
     ∙ ap (λ b. b && not (length (read_fields r.fields.items) == 0)) (sym holds ∙ viewed_is)

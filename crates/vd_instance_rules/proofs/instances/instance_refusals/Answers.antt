@@ -1,4 +1,4 @@
-use Rattle.std.proofs.Common.{◌∙◌, ap, ap₂, slice_index_or, subst, sym}
+use Rattle.std.proofs.Common.{◌∙◌, ◌∷◌, ap, ap₂, slice_index_or, subst, sym}
 use Rattle.vd_forest.specs.Forest.{parts_of}
 use Rattle.vd_instance_rules.proofs.InstanceLemmas.{instance_found}
 use Rattle.vd_instance_rules.specs.Instances.{entity_at}
