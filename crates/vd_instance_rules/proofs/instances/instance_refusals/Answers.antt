@@ -5,7 +5,7 @@ use Rattle.vd_instance_rules.specs.Instances.{entity_at}
 use Rattle.vd_known_designs.specs.Designs.{Knows}
 use Rattle.vd_meaning.specs.Tables.{no_declaration}
 use Rattle.vd_port_modes.specs.Source.{Source, design_in}
-use Rattle.vd_value_rules.specs.Actuals.{PortMap, generic_actuals_of}
+use Rattle.vd_value_rules.specs.Actuals.{generic_actuals_of}
 use Rattle.vd_value_rules.specs.Choices.{place_or}
 use Rattle.vd_instance_rules.proofs.instances.instance_refusals.Goals as goal
 

@@ -3,7 +3,6 @@ use Rattle.vd_instance_rules.proofs.FirstLemmas.{found_same, joined_with}
 use Rattle.vd_instance_rules.specs.Instances.{design_at, port_map_at, read_association, whole_or_disagrees}
 use Rattle.vd_port_associations.specs.Associations.{read_actual}
 use Rattle.vd_port_associations.specs.declared.actuals.ActualSort.{ActualSort}
-use Rattle.vd_port_lists.specs.Modes.{read_plain}
 use Rattle.vd_port_modes.specs.Readings.{read_oriented, read_reached}
 use Rattle.vd_port_modes.specs.Source.{Source, design_in}
 use Rattle.vd_rule_groups.specs.Groups.{firsts_of}
