@@ -3,6 +3,7 @@ mod FirstLemmas
 mod InstanceLemmas
 mod LoopLemmas
 mod ModeLemmas
+mod OrderLemmas
 mod ReadyLemmas
 mod SameLemmas
 mod ScalarLemmas

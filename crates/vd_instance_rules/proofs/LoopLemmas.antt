@@ -64,10 +64,10 @@ module _ {A : Type 0} (f : A → Bool) (xs : List A) (j : ℕ) (x : A) (within :
   any_front = ap (list_any f) (drop_more xs j x within ∙ ap (λ y. y ∷ drop (j + 1) xs) is)
 
   pub any_more : f x ≡ false → list_any f (drop j xs) ≡ all → list_any f (drop (j + 1) xs) ≡ all
-  any_more no before = sym (any_front ∙ ap (λ b. b || list_any f (drop (j + 1) xs)) no) ∙ before
+  any_more fails before = sym (any_front ∙ ap (λ b. b || list_any f (drop (j + 1) xs)) fails) ∙ before
 
   pub any_here : f x ≡ true → list_any f (drop j xs) ≡ all → true ≡ all
-  any_here yes before = sym (any_front ∙ ap (λ b. b || list_any f (drop (j + 1) xs)) yes) ∙ before
+  any_here holds before = sym (any_front ∙ ap (λ b. b || list_any f (drop (j + 1) xs)) holds) ∙ before
 
 pub any_none : {A : Type 0} (f : A → Bool) (xs : List A) (j : ℕ) (all : Bool) → length xs ≤ j → list_any f (drop j xs) ≡ all → false ≡ all
 any_none f xs j all past before = sym (ap (list_any f) (drop_all j xs past)) ∙ before
@@ -78,12 +78,12 @@ module _ (xs : List WrittenAssociation) (j : ℕ) (x : WrittenAssociation) (with
 
   pub all_more : is_some (port_of_formal (read_formal x.formal)) ≡ true → for_ports (read_associations (drop j xs)) ≡ all
       → for_ports (read_associations (drop (j + 1) xs)) ≡ all
-  all_more yes before =
-      sym (ap for_ports (front xs j x within is) ∙ ap (λ b. b && for_ports (read_associations (drop (j + 1) xs))) yes) ∙ before
+  all_more holds before =
+      sym (ap for_ports (front xs j x within is) ∙ ap (λ b. b && for_ports (read_associations (drop (j + 1) xs))) holds) ∙ before
 
   pub all_but : is_some (port_of_formal (read_formal x.formal)) ≡ false → for_ports (read_associations (drop j xs)) ≡ all → false ≡ all
-  all_but no before =
-      sym (ap for_ports (front xs j x within is) ∙ ap (λ b. b && for_ports (read_associations (drop (j + 1) xs))) no) ∙ before
+  all_but fails before =
+      sym (ap for_ports (front xs j x within is) ∙ ap (λ b. b && for_ports (read_associations (drop (j + 1) xs))) fails) ∙ before
 
 pub all_none : (xs : List WrittenAssociation) (j : ℕ) (all : Bool) → length xs ≤ j
     → list_all (λ a. is_some (port_of_formal a.formal)) (read_associations (drop j xs)) ≡ all → true ≡ all

@@ -1,8 +1,7 @@
 -- Associations break what they break as they are read from memory: of an actual the first tree counts alone.
-use Rattle.std.proofs.Common.{◌++◌, ◌≡◌, ◌∙◌, ◌∷◌, ◌&&◌, ◌||◌, Bool, List, [], ap, ap₂, false, not, refl, sym, true, ℕ, if◌then◌else◌}
+use Rattle.std.proofs.Common.{◌++◌, ◌≡◌, ◌∙◌, ◌∷◌, ◌&&◌, ◌||◌, List, [], ap, ap₂, false, not, refl, sym, true, ℕ, if◌then◌else◌}
 use Rattle.std.specs.List.{list_all, list_any}
 use Rattle.std.specs.Prelude.{None, Option, Some, is_some}
-use Rattle.vd_bytes.specs.declared.answers.Refused.{Refused}
 use Rattle.vd_elaboration.specs.Building.{BothWays, Input, Mode, Output}
 use Rattle.vd_elaboration.specs.Facets.{ByMode, ByView, ElementMode}
 use Rattle.vd_environments.specs.Environments.{Env, is_static}
@@ -10,10 +9,10 @@ use Rattle.vd_forest.specs.Forest.{Forest, more, nothing}
 use Rattle.vd_instance_rules.proofs.SeenLemmas.{associated_behind}
 use Rattle.vd_instance_rules.specs.Instances.{read_association, read_associations}
 use Rattle.vd_meaning.specs.Tables.{is_vector, same_type}
-use Rattle.vd_port_associations.specs.Associations.{AreAssociations, IsAssociation, alone}
+use Rattle.vd_port_associations.specs.Associations.{AreAssociations, alone}
 use Rattle.vd_port_associations.specs.declared.associations.PortAssociation.{PortAssociation as WrittenAssociation}
 use Rattle.vd_resolved.specs.declared.node.Resolved.{Resolved}
-use Rattle.vd_value_rules.specs.Actuals.{ActualSort, AnExpression, ConvertedPort, FormalSort, NoActual, NoFormal, PortAssociation, PortMap, SignalConverted, SignalNamed, SignalPassed, WholePort, actual_broken, actual_sort, against, all_associations_broken, are_in_order, are_known, association_broken, expression_broken, for_port, formal_broken, has_composite_generic, has_default, if_read, input_broken, is_associated, is_missing, is_open_actual, is_read, is_refused_later, may_be_converted, needs_actual, output_broken, port_map_broken, port_of_formal, takes_conversion, view_broken}
+use Rattle.vd_value_rules.specs.Actuals.{ActualSort, AnExpression, ConvertedPort, FormalSort, NoActual, NoFormal, PortAssociation, PortMap, SignalConverted, SignalNamed, SignalPassed, WholePort, actual_broken, actual_sort, against, all_associations_broken, are_in_order, are_known, association_broken, expression_broken, for_port, formal_broken, has_composite_generic, has_default, input_broken, is_associated, is_missing, is_open_actual, is_read, is_refused_later, may_be_converted, needs_actual, output_broken, port_of_formal, takes_conversion, view_broken}
 use Rattle.vd_value_rules.specs.Choices.{first_meaning}
 use Rattle.vd_value_rules.specs.Designs.{Design, Oriented, mode_of_port, straight}
 use Rattle.vd_value_rules.specs.Judging.{refused_if}

@@ -1,8 +1,6 @@
 -- Ports that are associated.
-use Rattle.std.proofs.Common.{◌++◌, ◌==◌, ◌≡◌, ◌∙◌, ◌∷◌, ◌||◌, Bool, List, [], ap, ap₂, false, nat_eq, refl, sym, true, ℕ}
-use Rattle.std.specs.HashMap.{get}
-use Rattle.std.specs.List.{list_any}
-use Rattle.std.specs.Prelude.{None, Option, Some, is_some}
+use Rattle.std.proofs.Common.{◌++◌, ◌≡◌, ◌∙◌, ◌∷◌, ◌||◌, Bool, List, [], ap, ap₂, false, refl, sym, true, ℕ}
+use Rattle.std.specs.Prelude.{None, Option, Some}
 use Rattle.vd_instance_rules.specs.Instances.{ports_for, with_port}
 use Rattle.vd_meaning.specs.Tables.{same_type}
 use Rattle.vd_port_associations.specs.Associations.{read_formal}

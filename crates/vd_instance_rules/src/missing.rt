@@ -1,6 +1,6 @@
 //! Ports that are left out.
 
-ghost use Rattle.std.specs.Prelude.{◌≡◌, ◌&&◌, IfOk, List, false, is_some};
+ghost use Rattle.std.specs.Prelude.{◌≡◌, ◌&&◌, IfOk, List, false, is_some, not};
 ghost use Rattle.std.specs.List.{list_all, list_any};
 ghost use Rattle.vd_instance_rules.specs.Instances.{IsInstance, design_at, missing_broken, port_map_at, ports_for, read_associations};
 ghost use Rattle.vd_port_associations.specs.Associations.{read_formal};
@@ -99,6 +99,13 @@ fn is_named(form: Form) -> bool
     matches!(form, Form::Association)
 }
 
+/// Whether an element without `=>` stands behind one with it.
+fn is_behind_name(are_named: bool, has_name: bool) -> bool
+    ensures { result ≡ (are_named && not has_name) }
+{
+    are_named && !has_name
+}
+
 /// Whether no element without `=>` stands behind one with it.
 fn are_in_order(elements: &Cursor<'_, Resolved>) -> bool
     ensures { result ≡ in_order false elements.now }
@@ -106,11 +113,11 @@ fn are_in_order(elements: &Cursor<'_, Resolved>) -> bool
     let mut are_named = false;
     let mut rest = elements.fork();
     while let Some(first) = rest.open() {
-        let is_named = is_named(first.form.form);
-        if are_named && !is_named {
+        let has_name = is_named(first.form.form);
+        if is_behind_name(are_named, has_name) {
             return false;
         }
-        are_named = is_named;
+        are_named = has_name;
         rest = first.next;
     }
     true

@@ -2,6 +2,7 @@
 
 ghost use Rattle.std.specs.Prelude.{◌≡◌, ◌&&◌, ◌∷◌, IfOk, List, OnOk};
 ghost use Rattle.vd_instance_rules.specs.Instances.{IsInstance, converted_output, design_at, port_map_at, read_association};
+ghost use Rattle.vd_elaboration.specs.Facets.{ByMode};
 ghost use Rattle.vd_known_designs.specs.Designs.{IsReady, Knows};
 ghost use Rattle.vd_meaning.specs.Tables.{is_vector as is_vector_type};
 ghost use Rattle.vd_port_associations.specs.Associations.{read_actual};
@@ -168,6 +169,30 @@ fn view_refusals(
     }
 }
 
+/// What an actual breaks that stands for a port of one of the modes that are no views.
+fn plain_refusals(
+    design: &mut KnownDesign<'_, '_>,
+    instance: &Instance<'_, '_>,
+    alloc: Global,
+    port: DeclId,
+    mode: Mode,
+    association: &PortAssociation<'_>,
+    actual: &ActualSort<'_>,
+) -> Result<Firsts, AllocError>
+    requires ready { IsReady design.old }
+    requires instance { IsInstance instance.now }
+    ensures refused { (k : Known) (ks : List Known) → Knows (design_at instance.now) design.old (k ∷ ks) → IfOk result (λ x. x ≡ firsts_of
+        (actual_broken (design_at instance.now) k.env (port_map_at instance.now) port (read_association association.now) (ByMode (read_plain mode)) (read_actual actual.now))) }
+    ensures knows { (d : Design) (ks : List Known) → Knows d design.old ks → OnOk result (Knows d design.new ks) }
+{
+    let interfaces = instance.interfaces;
+    match mode {
+        Mode::Input => input_refusals(design, instance, alloc, port, association, actual),
+        Mode::Output => output_refusals(interfaces, alloc, Mode::Output, association, actual),
+        Mode::BothWays => output_refusals(interfaces, alloc, Mode::BothWays, association, actual),
+    }
+}
+
 /// What an actual breaks that stands for a port of this mode.
 pub(crate) fn actual_refusals(
     design: &mut KnownDesign<'_, '_>,
@@ -184,19 +209,16 @@ pub(crate) fn actual_refusals(
         (actual_broken (design_at instance.now) k.env (port_map_at instance.now) port (read_association association.now) (read_mode mode) (read_actual actual.now))) }
     ensures knows { (d : Design) (ks : List Known) → Knows d design.old ks → OnOk result (Knows d design.new ks) }
 {
-    let interfaces = instance.interfaces;
     match mode {
-        PortMode::Plain(Mode::Input) => {
-            input_refusals(design, instance, alloc, port, association, actual)
+        PortMode::Plain(plain) => {
+            plain_refusals(design, instance, alloc, port, plain, association, actual)
         }
-        PortMode::Plain(Mode::Output) => {
-            output_refusals(interfaces, alloc, Mode::Output, association, actual)
-        }
-        PortMode::Plain(Mode::BothWays) => {
-            output_refusals(interfaces, alloc, Mode::BothWays, association, actual)
-        }
-        PortMode::ByView { .. } => {
-            view_refusals(interfaces, alloc, straight(mode), association, actual)
-        }
+        PortMode::ByView { .. } => view_refusals(
+            instance.interfaces,
+            alloc,
+            straight(mode),
+            association,
+            actual,
+        ),
     }
 }

@@ -2,13 +2,12 @@ use Rattle.std.proofs.Common.{◌++◌, ◌∙◌, [], ap, if◌then◌else◌, 
 use Rattle.std.proofs.lemmas.List.{append-nil}
 use Rattle.vd_instance_rules.proofs.FirstLemmas.{joined_with}
 use Rattle.vd_instance_rules.specs.Instances.{actual_for_port, design_at, port_map_at, read_association}
-use Rattle.vd_port_associations.specs.Associations.{read_formal}
 use Rattle.vd_rule_groups.specs.Groups.{firsts_of}
 use Rattle.vd_value_rules.specs.Actuals.{formal_broken}
 use Rattle.vd_instance_rules.proofs.associations.association_refusals.Goals as goal
 
-pub returns-then-is_read-clause-refused : goal.returns-then-is_read-clause-refused
-returns-then-is_read-clause-refused c = λ k ks knows.
+pub returns-in_ok-actual-clause-refused : goal.returns-in_ok-actual-clause-refused
+returns-in_ok-actual-clause-refused c = λ k ks knows.
     let d = design_at c.args.instance.now in
     let m = port_map_at c.args.instance.now in
     let a = read_association c.args.association.now in

@@ -1,4 +1,4 @@
-use Rattle.std.proofs.Common.{[], ap, drop, refl, sym, take}
+use Rattle.std.proofs.Common.{[], ap, refl, sym, take}
 use Rattle.vd_instance_rules.proofs.LoopLemmas.{refusals_all, refusals_more, seen_more}
 use Rattle.vd_instance_rules.proofs.ReadyLemmas.{still_ready}
 use Rattle.vd_instance_rules.specs.Instances.{design_at, port_map_at, read_association, read_associations}

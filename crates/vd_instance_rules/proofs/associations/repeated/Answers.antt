@@ -1,5 +1,4 @@
 use Rattle.std.proofs.Common.{◌∙◌, ap}
-use Rattle.vd_port_associations.specs.Associations.{read_formal}
 use Rattle.vd_rule_groups.specs.Groups.{firsts_of}
 use Rattle.vd_value_rules.specs.Actuals.{is_associated}
 use Rattle.vd_value_rules.specs.Judging.{refused_if}

@@ -1,5 +1,4 @@
-use Rattle.std.proofs.Common.{ap, ◌∙◌, [], ◌&&◌}
-use Rattle.std.specs.List.{list_any}
+use Rattle.std.proofs.Common.{ap, ◌∙◌, []}
 use Rattle.vd_instance_rules.proofs.FirstLemmas.{joined_with}
 use Rattle.vd_instance_rules.proofs.SameLemmas.{port_map_same}
 use Rattle.vd_instance_rules.specs.Instances.{design_at, missing_broken, port_map_at, read_associations}

@@ -1,5 +1,4 @@
-use Rattle.std.proofs.Common.{◌&&◌, ◌∙◌, ap, ap₂, sym}
-use Rattle.vd_instance_rules.specs.Instances.{converted_output}
+use Rattle.std.proofs.Common.{◌∙◌, ap, not}
 use Rattle.vd_port_lists.specs.Modes.{read_plain}
 use Rattle.vd_port_modes.specs.Readings.{read_reached}
 use Rattle.vd_port_modes.specs.Source.{design_in}
@@ -10,7 +9,7 @@ use Rattle.vd_instance_rules.proofs.modes.converted_refusals.Goals as goal
 
 pub returns-then-is_taken : goal.returns-then-is_taken
 returns-then-is_taken c =
-    c.firsts_if.ensures ∙ ap (λ b. firsts_of (refused_if (Rattle.std.specs.Prelude.not b) c.args.place 402)) c.may_be_driven.ensures
+    c.firsts_if.ensures ∙ ap (λ b. firsts_of (refused_if (not b) c.args.place 402)) c.may_be_driven.ensures
     ∙ of_conversion (design_in c.args.interfaces.now) (read_plain c.args.mode) c.args.mark c.args.place (read_reached c.args.name.now) c.args.association c.is_taken-is_taken.result
     c.is_taken-is_taken.ensures c.if-is_taken.true
 

@@ -3,7 +3,6 @@ use Rattle.vd_instance_rules.proofs.FirstLemmas.{found_same, joined_with}
 use Rattle.vd_instance_rules.specs.Instances.{design_at, port_map_at, read_association, whole_or_disagrees}
 use Rattle.vd_port_associations.specs.Associations.{read_actual}
 use Rattle.vd_port_associations.specs.declared.actuals.ActualSort.{ActualSort}
-use Rattle.vd_port_lists.specs.Modes.{read_plain}
 use Rattle.vd_port_modes.specs.Readings.{read_oriented, read_reached}
 use Rattle.vd_port_modes.specs.Source.{Source, design_in}
 use Rattle.vd_rule_groups.specs.Groups.{firsts_of}
@@ -39,12 +38,12 @@ pub returns-in-SignalPassed-clause-refused : goal.returns-in-SignalPassed-clause
 returns-in-SignalPassed-clause-refused c = λ k ks knows.
     c.firsts_if-in-SignalPassed.ensures ∙ ap (λ (s : ActualSort). firsts_of (input_broken (design_at c.args.instance.now) k.env (port_map_at c.args.instance.now) c.args.port (read_association c.args.association.now) (read_actual s))) (sym c.in-SignalPassed.is)
 
-pub returns-in-AnExpression-clause-refused : goal.returns-in-AnExpression-clause-refused
-returns-in-AnExpression-clause-refused c = λ k ks knows.
+pub returns-in_ok-expression-in-AnExpression-clause-refused : goal.returns-in_ok-expression-in-AnExpression-clause-refused
+returns-in_ok-expression-in-AnExpression-clause-refused c = λ k ks knows.
     let d = design_at c.args.instance.now in
     let m = port_map_at c.args.instance.now in
     let a = read_association c.args.association.now in
     c.together.ensures
-    ∙ joined_with c.as_value-read.result c.in_ok-expression.expression (broken_as_value d c.in-AnExpression.place (read_reached c.in-AnExpression.name))
-    (expression_broken d k.env m c.args.port a) c.as_value-read.ensures (c.in_ok-expression.ensures.refused k ks knows)
+    ∙ joined_with c.as_value-read.result c.in_ok-expression-in-AnExpression.expression (broken_as_value d c.in-AnExpression.place (read_reached c.in-AnExpression.name))
+    (expression_broken d k.env m c.args.port a) c.as_value-read.ensures (c.in_ok-expression-in-AnExpression.ensures.refused k ks knows)
     ∙ ap (λ (s : ActualSort). firsts_of (input_broken (design_at c.args.instance.now) k.env (port_map_at c.args.instance.now) c.args.port (read_association c.args.association.now) (read_actual s))) (sym c.in-AnExpression.is)

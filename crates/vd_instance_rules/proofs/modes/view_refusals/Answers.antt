@@ -1,13 +1,11 @@
-use Rattle.std.proofs.Common.{◌∙◌, ap, not, sym}
-use Rattle.vd_instance_rules.proofs.FirstLemmas.{found_same, joined_with}
-use Rattle.vd_instance_rules.specs.Instances.{design_at, port_map_at, read_association, whole_or_disagrees}
+use Rattle.std.proofs.Common.{◌∙◌, ap, sym}
+use Rattle.vd_instance_rules.proofs.FirstLemmas.{found_same}
+use Rattle.vd_instance_rules.specs.Instances.{read_association, whole_or_disagrees}
 use Rattle.vd_port_associations.specs.Associations.{read_actual}
 use Rattle.vd_port_associations.specs.declared.actuals.ActualSort.{ActualSort}
-use Rattle.vd_port_lists.specs.Modes.{read_plain}
 use Rattle.vd_port_modes.specs.Readings.{read_oriented, read_reached}
-use Rattle.vd_port_modes.specs.Source.{Source, design_in}
+use Rattle.vd_port_modes.specs.Source.{design_in}
 use Rattle.vd_rule_groups.specs.Groups.{firsts_of}
-use Rattle.vd_value_rules.specs.Judging.{refused_if}
 use Rattle.vd_value_rules.specs.Actuals.{view_broken}
 use Rattle.vd_instance_rules.proofs.modes.view_refusals.Goals as goal
 
