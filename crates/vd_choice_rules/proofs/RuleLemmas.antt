@@ -2,7 +2,7 @@
 use Rattle.std.proofs.Common.{◌≡◌, ◌++◌, Bool, List, None, Option, Some, [], false, if◌then◌else◌, not, refl, true, ◌&&◌}
 use Rattle.vd_bytes.specs.declared.answers.Refused.{Refused}
 use Rattle.vd_bytes.specs.declared.places.Place.{Place}
-use Rattle.vd_choice_texts.proofs.TextLemmas.{array_of_rules, matching_of_rules}
+use Rattle.vd_choice_rules.proofs.TextLemmas.{array_of_rules, matching_of_rules}
 use Rattle.vd_environments.specs.Environments.{Env}
 use Rattle.vd_forest.specs.Forest.{Forest}
 use Rattle.vd_given_choices.proofs.RuleLemmas.{AreOfRules, both_of_rules, firsts_of_rules, not_static_of_rules, one_of_rules, repeated_of_rules}

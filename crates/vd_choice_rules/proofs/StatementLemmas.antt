@@ -6,8 +6,8 @@ use Rattle.vd_bytes.specs.declared.answers.Refused.{Refused}
 use Rattle.vd_choice_rules.specs.Statements.{broken_by_selector, matched_by}
 use Rattle.vd_choice_statements.specs.Statements.{IsSelecting, IsSelectingIn, comparison_of}
 use Rattle.vd_choice_statements.specs.declared.statements.Selecting.{Selecting}
-use Rattle.vd_choice_texts.proofs.TextLemmas.{texts_by_equality, texts_by_matching}
-use Rattle.vd_choice_texts.specs.Texts.{texts_refused}
+use Rattle.vd_choice_rules.proofs.TextLemmas.{texts_by_equality, texts_by_matching}
+use Rattle.vd_choice_rules.specs.Texts.{texts_refused}
 use Rattle.vd_environments.specs.Environments.{Env}
 use Rattle.vd_given_choices.proofs.ChoiceLemmas.{none_behind}
 use Rattle.vd_least.proofs.LeastLaws.{least_of_append}

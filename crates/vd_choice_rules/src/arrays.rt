@@ -9,10 +9,10 @@ ghost use Rattle.vd_value_rules.specs.Designs.{Design};
 ghost use Rattle.vd_value_rules.specs.Knowledge.{Known};
 
 use crate::matching::refused_matching;
+use crate::texts::{refused_lengthless, refused_texts};
 use std::alloc::{AllocError, Global};
 use vd_bytes::Refused;
 use vd_choice_statements::Selecting;
-use vd_choice_texts::{refused_lengthless, refused_texts};
 use vd_known_designs::KnownDesign;
 use vd_least::lesser;
 

@@ -3,8 +3,13 @@
 #![tactic(auto)]
 
 mod arrays;
+mod covering;
+mod lengths;
 mod matching;
+mod positions;
+mod repeats;
 mod scalars;
 pub mod statements;
+mod texts;
 
 pub use statements::choice_refusals;

@@ -1,4 +1,0 @@
-mod CountLemmas
-mod KnownLemmas
-mod SeenLemmas
-pub mod TextLemmas

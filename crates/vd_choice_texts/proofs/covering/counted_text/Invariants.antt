@@ -1,6 +1,0 @@
-use Rattle.std.proofs.Common.{take}
-use Rattle.vd_choice_covering.specs.Texts.{IsCounted}
-use Rattle.vd_choice_texts.proofs.covering.counted_text.Given as goal
-
-abbrev pub invariant-loop-position : goal.invariant-loop-position
-invariant-loop-position l = IsCounted l.numbers.items (take l.position-index l.positions)
