@@ -1,1 +1,4 @@
-mod GroupLemmas
+mod AllGroupLemmas
+pub mod GroupLemmas
+pub mod LevelLemmas
+pub mod WalkLemmas

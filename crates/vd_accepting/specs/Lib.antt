@@ -1,1 +1,3 @@
 pub mod Accepting
+pub mod Levels
+pub mod Walking

@@ -5,7 +5,7 @@ ghost use Rattle.vd_accepting.specs.Accepting.{first_of_rules as first_among_rul
 ghost use Rattle.vd_finding.specs.Finding.{or_else};
 ghost use Rattle.vd_rules.specs.Phases.{first_broken, resolved_design};
 
-use crate::groups::first_of_groups;
+use crate::all_groups::first_of_groups;
 use std::alloc::{AllocError, Global};
 use vd_bytes::Refused;
 use vd_call_rules::first_call_refusal;

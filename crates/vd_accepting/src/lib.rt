@@ -2,7 +2,12 @@
 #![tactic(auto)]
 
 pub mod accepted;
-pub mod groups;
+mod all_groups;
+mod groups;
+pub mod insides;
 pub mod judging;
+pub mod levels;
+pub mod walking;
 
 pub use accepted::{Accepted, accept19, accept93};
+pub use walking::value_refusals;
