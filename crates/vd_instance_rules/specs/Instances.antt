@@ -59,7 +59,7 @@ ports_for (a ∷ as') = with_port (port_of_formal a.formal) (ports_for as')
 
 -- ---- what is broken
 
--- a signal that is whole may not be named, and any other has to agree
+-- a signal that has a view where none is taken may not be named, and any other has to agree
 abbrev pub whole_or_disagrees : Bool → Design → Oriented → Place → Reached → List Refused
 whole_or_disagrees is_whole d formal place r = refused_if is_whole place 308 ++ (if is_whole then [] else signal_broken d formal place r)
 
