@@ -20,7 +20,7 @@ use vd_bytes::{Place, Refused};
 use vd_declarations::{Class, DeclId, TypeId};
 use vd_forest::{Cursor, Opened};
 use vd_forms::Form;
-use vd_indicated::subtypes::has_bounds;
+use vd_indicating::subtypes::has_bounds;
 use vd_known_designs::KnownDesign;
 use vd_known_indications::Surroundings;
 use vd_operations::tables::{class_of, parameters_of};

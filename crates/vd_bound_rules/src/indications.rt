@@ -15,7 +15,7 @@ use crate::sorts::{Indication, indication_of, number_of};
 use std::alloc::{AllocError, Global};
 use vd_bytes::{Place, Refused};
 use vd_forest::{Cursor, Opened};
-use vd_indicated::subtypes::has_bounds;
+use vd_indicating::subtypes::has_bounds;
 use vd_known_designs::KnownDesign;
 use vd_known_indications::indicated_twice;
 use vd_resolved::Resolved;

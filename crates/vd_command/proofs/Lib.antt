@@ -1,6 +1,6 @@
-pub mod ConversionLemmas
 pub mod EqualRuns
 pub mod HeadlineLemmas
+pub mod JobLemmas
 pub mod OneOutcome
 pub mod SomeOutcome
 pub mod WordsLemmas

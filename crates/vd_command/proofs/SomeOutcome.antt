@@ -22,9 +22,12 @@ use Rattle.vd_first_accept.specs.Acceptance.{HasTokens}
 use Rattle.vd_first_accept.specs.Unknown.{first_unknown}
 use Rattle.vd_first_accept.proofs.UnknownFound.{names_known, names_unknown}
 use Rattle.vd_first_lower.specs.Conversions.{Answer, refused, beyond, converted, design_text, map_rows, IsConversion}
-use Rattle.vd_command.specs.Words.{file_of}
+use Rattle.vd_checking.proofs.CheckLemmas.{check_some}
+use Rattle.vd_design_files.specs.Laws.{HasSomeAnswer}
 use Rattle.vd_program.specs.Dues.{Due, refused_words, limit_number, limit_passed}
-use Rattle.vd_command.specs.Outcomes.{due_of, IsFileOutcome, IsWordsOutcome, HasSomeOutcome}
+use Rattle.vd_program.specs.Outcomes.{contents_of, total_length, IsFilesOutcome}
+use Rattle.vd_command.specs.Words.{Job, refusing, converting, checking, files_of, job_of}
+use Rattle.vd_command.specs.Outcomes.{due_of, Says, IsJobOutcome, HasSomeOutcome}
 
 abbrev Conversion : Selected → Type 0
 Conversion s = (a : Answer) × IsConversion s a
@@ -55,15 +58,21 @@ by_lexing s (lexed ts) is = by_count s ts is (cases_lt (TOKENS_LIMIT + 1) (lengt
 some_conversion : (s : Selected) → Conversion s
 some_conversion s = let l = some_lexing V2019 s in by_lexing s l.0 l.1
 
-of_file : (file content : List ℕ) → (limit_number limits.Input < length content) ⊎ (length content ≤ limit_number limits.Input) → (due : Due) × IsFileOutcome file content due
-of_file file content (inl long) = (limit_passed limits.Input, inl (long, refl))
-of_file file content (inr within) =
-    let c = some_conversion (plain_of 0 content) in
-    (due_of file c.0, inr (within, c.0, c.1, refl))
+module _ (some_answer : HasSomeAnswer) where
+  some_said : (job : Job) (files : List (List ℕ × List ℕ)) → (due : Due) × Says job (files_of job) (contents_of files (files_of job)) due
+  some_said refusing files = (refused_words, refl)
+  some_said (converting file) files = let c = some_conversion (plain_of 0 (content_of files file)) in (due_of file c.0, (c.0, c.1, refl))
+  some_said (checking tool names) files = check_some some_answer tool names (contents_of files names)
 
-of_words : (named : Option (List ℕ)) (files : List (List ℕ × List ℕ)) → (due : Due) × IsWordsOutcome named files due
-of_words None files = (refused_words, refl)
-of_words (Some file) files = of_file file (content_of files file) (cases_lt (limit_number limits.Input) (length (content_of files file)))
+  some_of_job : (job : Job) (files : List (List ℕ × List ℕ)) → (due : Due) × IsJobOutcome job files due
+  some_of_job job files = by (cases_lt (limit_number limits.Files) (length (files_of job))) (cases_lt (limit_number limits.Input) (total_length (contents_of files (files_of job))))
+    where
+      by : (limit_number limits.Files < length (files_of job)) ⊎ (length (files_of job) ≤ limit_number limits.Files)
+          → (limit_number limits.Input < total_length (contents_of files (files_of job))) ⊎ (total_length (contents_of files (files_of job)) ≤ limit_number limits.Input)
+          → (due : Due) × IsJobOutcome job files due
+      by (inl many) x = (limit_passed limits.Files, IsFilesOutcome.many_files many refl)
+      by (inr few) (inl long) = (limit_passed limits.Input, IsFilesOutcome.long_input few long refl)
+      by (inr few) (inr within) = let x = some_said job files in (x.0, IsFilesOutcome.said few within x.1)
 
-pub some_outcome : HasSomeOutcome
-some_outcome words files = of_words (file_of words) files
+  pub some_outcome : HasSomeOutcome
+  some_outcome words files = some_of_job (job_of words) files

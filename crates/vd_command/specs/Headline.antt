@@ -1,5 +1,5 @@
--- What the whole call promises of a conversion.
-use Rattle.std.specs.Prelude.{◌≡◌, ◌≤◌, ◌+◌, ℕ, List, length, Option, Some}
+-- What the whole call promises of a conversion, and of a check.
+use Rattle.std.specs.Prelude.{◌≡◌, ◌<◌, ◌≤◌, ◌+◌, ℕ, [], List, length, slice_index_or, Option}
 use Rattle.std.specs.List.{AllByRecursion}
 use Rattle.vd_bytes.specs.declared.channels.Channel.{Channel}
 use Rattle.vd_bytes.specs.declared.channels.Channel.TheVariants.{Design, Map, Console}
@@ -14,8 +14,10 @@ use Rattle.vd_first_grammar.specs.Conditions.{file_depths}
 use Rattle.vd_first_grammar.specs.Refusals.{nesting_limit}
 use Rattle.vd_first_names.specs.Maps.{map_text_of}
 use Rattle.vd_first_lower.specs.Headline.{IsText, IsFaithful}
-use Rattle.vd_command.specs.Words.{file_of}
 use Rattle.vd_program.specs.Dues.{limit_number}
+use Rattle.vd_program.specs.Outcomes.{contents_of, total_length}
+use Rattle.vd_checking.specs.Checks.{MeetsRules}
+use Rattle.vd_command.specs.Words.{converting, checking, job_of, files_of}
 use Rattle.vd_command.specs.Outcomes.{conversion_line}
 
 -- Design and Map got a design and a map that say what the bytes of a file say, and Console the line of a conversion. The first argument
@@ -28,15 +30,13 @@ pub record GotConversion {S : Type 0} (written : S → Channel → Option (List 
   pub on_console : Appends (written old Console) (written new Console) (conversion_line 2 (length rows))
   pub faithful : IsFaithful (plain_of 0 content) design rows
 
--- the FILE of the words was converted
-pub record ConvertsFile {S : Type 0} (written : S → Channel → Option (List ℕ)) (old new : S) (words : List (List ℕ)) (files : List (List ℕ × List ℕ)) : Type 0 where
-  pub file : List ℕ
-  pub names : file_of words ≡ Some file
-  pub conversion : GotConversion written old new (content_of files file)
+-- the FILE of the words was converted, where they ask for that
+abbrev pub ConvertsFile : {S : Type 0} → (S → Channel → Option (List ℕ)) → S → S → List (List ℕ) → List (List ℕ × List ℕ) → Type 0
+ConvertsFile written old new words files = (file : List ℕ) → job_of words ≡ converting file → GotConversion written old new (content_of files file)
 
 -- no count of faults rose that has to do with these words. The first two arguments say what the counts are
 pub record HasNoFault {S : Type 0} (read_faults : S → List ℕ → ℕ) (write_faults : S → ℕ) (old new : S) (words : List (List ℕ)) : Type 0 where
-  pub reading : (file : List ℕ) → file_of words ≡ Some file → Rose (read_faults old file) (read_faults new file) → ⊥
+  pub reading : (i : ℕ) → i < length (files_of (job_of words)) → Rose (read_faults old (slice_index_or (files_of (job_of words)) i [])) (read_faults new (slice_index_or (files_of (job_of words)) i [])) → ⊥
   pub writing : Rose (write_faults old) (write_faults new) → ⊥
 
 -- the bytes of a file are a text of the first language in which nothing is refused, within the limits
@@ -47,8 +47,21 @@ pub record IsAcceptable (content : List ℕ) : Type 0 where
   pub few_tokens : length is_text.tokens ≤ TOKENS_LIMIT + 1
   pub shallow : AllByRecursion (λ d. d ≤ nesting_limit V2019) (file_depths file)
 
--- a file that is named and acceptable
+-- the words ask for a conversion of an acceptable file
 pub record NamesAcceptable (words : List (List ℕ)) (files : List (List ℕ × List ℕ)) : Type 0 where
   pub file : List ℕ
-  pub names : file_of words ≡ Some file
+  pub names : job_of words ≡ converting file
   pub acceptable : IsAcceptable (content_of files file)
+
+-- files of revision 2019 that break no rule, within the limits
+pub record IsWithinRules (tool : List ℕ) (names contents : List (List ℕ)) : Type 0 where
+  pub few_files : length names ≤ limit_number limits.Files
+  pub few_bytes : total_length contents ≤ limit_number limits.Input
+  pub meets : MeetsRules tool names contents
+
+-- the words ask for a check of files that break no rule, within the limits
+pub record ChecksLegal (words : List (List ℕ)) (files : List (List ℕ × List ℕ)) : Type 0 where
+  pub tool : List ℕ
+  pub names : List (List ℕ)
+  pub asks : job_of words ≡ checking tool names
+  pub legal : IsWithinRules tool names (contents_of files names)

@@ -1,14 +1,14 @@
 -- What is due for some words and files: a status, and the bytes of each channel.
-use Rattle.std.specs.Prelude.{◌≡◌, ◌<◌, ◌≤◌, ◌⊎◌, ℕ, List, [], ◌∷◌, ◌++◌, length, codes, Option, Some, None}
+use Rattle.std.specs.Prelude.{◌≡◌, ℕ, List, [], ◌∷◌, ◌++◌, length, codes}
 use Rattle.std.specs.Fmt.{decimal}
-use Rattle.vd_bytes.specs.declared.answers.Limit.TheVariants as limits
-use Rattle.vd_bytes.specs.Trays.{content_of}
 use Rattle.vd_trees.specs.declared.rows.Row.{Row}
 use Rattle.vd_first_lex.specs.Lexings.{plain_of}
 use Rattle.vd_first_names.specs.Maps.{map_text_of}
 use Rattle.vd_first_lower.specs.Conversions.{Answer, refused, beyond, converted, IsConversion}
-use Rattle.vd_program.specs.Dues.{Due, refused_words, refusal, limit_number, limit_passed}
-use Rattle.vd_command.specs.Words.{file_of}
+use Rattle.vd_program.specs.Dues.{Due, refused_words, refusal, limit_passed}
+use Rattle.vd_program.specs.Outcomes.{contents_of, IsFilesOutcome}
+use Rattle.vd_checking.specs.Checks.{SaysCheck}
+use Rattle.vd_command.specs.Words.{Job, refusing, converting, checking, job_of, files_of}
 
 -- converted U units R rows
 abbrev pub conversion_line : ℕ → ℕ → List ℕ
@@ -34,19 +34,18 @@ abbrev pub SaysConversion : List (List ℕ) → List (List ℕ) → Due → Type
 SaysConversion (file ∷ []) (content ∷ []) due = (answer : Answer) × IsConversion (plain_of 0 content) answer × (due ≡ due_of file answer)
 SaysConversion _ _ _ = ⊥
 
--- the input is too long, or it is converted
-abbrev pub IsFileOutcome : List ℕ → List ℕ → Due → Type 0
-IsFileOutcome file content due =
-    ((limit_number limits.Input < length content) × (due ≡ limit_passed limits.Input))
-    ⊎ ((length content ≤ limit_number limits.Input) × (answer : Answer) × IsConversion (plain_of 0 content) answer × (due ≡ due_of file answer))
+-- what a job says of its files. Words that aren't taken have none
+abbrev pub Says : Job → List (List ℕ) → List (List ℕ) → Due → Type 0
+Says refusing names contents due = due ≡ refused_words
+Says (converting file) names contents due = SaysConversion names contents due
+Says (checking tool files) names contents due = SaysCheck tool names contents due
 
--- the words aren't taken, or the FILE that they name has an outcome
-abbrev pub IsWordsOutcome : Option (List ℕ) → List (List ℕ × List ℕ) → Due → Type 0
-IsWordsOutcome None files due = due ≡ refused_words
-IsWordsOutcome (Some file) files due = IsFileOutcome file (content_of files file) due
+-- The outcome of a job: there are too many FILEs, or too many bytes in them, or what the job says of them
+abbrev pub IsJobOutcome : Job → List (List ℕ × List ℕ) → Due → Type 0
+IsJobOutcome job files due = IsFilesOutcome (Says job) (files_of job) (contents_of files (files_of job)) due
 
 abbrev pub IsOutcome : List (List ℕ) → List (List ℕ × List ℕ) → Due → Type 0
-IsOutcome words files due = IsWordsOutcome (file_of words) files due
+IsOutcome words files due = IsJobOutcome (job_of words) files due
 
 -- words and files have at most one outcome
 abbrev pub HasOneOutcome : Type 0

@@ -1,30 +1,48 @@
--- The words that are taken: those of `convert` with exactly one FILE. The program has no other mode yet.
-use Rattle.std.specs.Prelude.{◌≡◌, ℕ, List, [], ◌∷◌, Option, Some, None, option_and_then}
+-- What words ask for.
+use Rattle.std.specs.Prelude.{◌≡◌, ℕ, Bool, true, false, List, [], ◌∷◌, Option, Some, None}
 use Rattle.vd_words.specs.declared.command.Mode.{Mode}
-use Rattle.vd_words.specs.declared.command.Mode.TheVariants.{Convert}
+use Rattle.vd_words.specs.declared.command.Mode.TheVariants.{Convert, Check}
 use Rattle.vd_words.specs.Commands.{Meaning, meaning_of}
 pub use Rattle.vd_words.specs.Words.{texts_of}
 use Rattle.vd_command.specs.declared.action.Action.{Action}
 use Rattle.vd_command.specs.declared.action.Action.TheVariants as actions
 
-abbrev pub file_in : Mode → List (List ℕ) → Option (List ℕ)
-file_in Convert (file ∷ []) = Some file
-file_in _ _ = None
+-- Words that aren't taken; converting one FILE; checking FILEs, under a tool type. The program has no other mode yet.
+pub data Job : Type 0 where
+  refusing : Job
+  converting : (file : List ℕ) → Job
+  checking : (tool : List ℕ) → (files : List (List ℕ)) → Job
 
--- the FILE of a command that the program has
-abbrev pub file_of_meaning : Meaning → Option (List ℕ)
-file_of_meaning m = file_in m.mode m.files
+abbrev pub job_in : Mode → List ℕ → List (List ℕ) → Job
+job_in Convert tool (file ∷ []) = converting file
+job_in Check tool files = checking tool files
+job_in _ tool files = refusing
 
--- the FILE of some words, where they are taken
-unfoldable pub file_of : List (List ℕ) → Option (List ℕ)
-file_of words = option_and_then file_of_meaning (meaning_of words)
+abbrev pub job_of_meaning : Meaning → Job
+job_of_meaning m = job_in m.mode m.tool_type m.files
 
--- what is to be done for a command: its mode is that of the action, which has its FILEs; or the words that mean it aren't taken
-abbrev pub IsActionFor : Action → Meaning → Type 0
-IsActionFor actions.RefuseWords m = file_of_meaning m ≡ None
-IsActionFor (actions.Convert files) m = (file : List ℕ) × (files ≡ file ∷ []) × (file_of_meaning m ≡ Some file)
+abbrev pub job_of_command : Option Meaning → Job
+job_of_command None = refusing
+job_of_command (Some m) = job_of_meaning m
 
--- the same for words
-abbrev pub IsActionOf : Action → List (List ℕ) → Type 0
-IsActionOf actions.RefuseWords words = file_of words ≡ None
-IsActionOf (actions.Convert files) words = (file : List ℕ) × (files ≡ file ∷ []) × (file_of words ≡ Some file)
+-- what some words ask for
+unfoldable pub job_of : List (List ℕ) → Job
+job_of words = job_of_command (meaning_of words)
+
+-- its FILEs
+abbrev pub files_of : Job → List (List ℕ)
+files_of refusing = []
+files_of (converting file) = file ∷ []
+files_of (checking tool files) = files
+
+-- whether it writes Design and Map where it is done
+abbrev pub writes : Job → Bool
+writes refusing = false
+writes (converting file) = true
+writes (checking tool files) = false
+
+-- what is to be done for a job
+abbrev pub IsActionFor : Action → Job → Type 0
+IsActionFor actions.RefuseWords job = job ≡ refusing
+IsActionFor (actions.Convert files) job = (file : List ℕ) × (files ≡ file ∷ []) × (job ≡ converting file)
+IsActionFor (actions.Check tool files) job = job ≡ checking tool files

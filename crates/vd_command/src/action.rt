@@ -1,5 +1,6 @@
 //! What the program can do.
 
+use vd_bytes::Text;
 use vd_words::FileNames;
 
 /// A mode that the program has, with what it needs of the words.
@@ -9,4 +10,6 @@ pub enum Action {
     RefuseWords,
     /// Convert the one file.
     Convert(FileNames),
+    /// Check the files, under a tool type.
+    Check(Text, FileNames),
 }

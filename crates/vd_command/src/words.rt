@@ -2,7 +2,7 @@
 
 ghost use Rattle.std.specs.Prelude.{IfOk};
 ghost use Rattle.vd_words.specs.Commands.{meaning_in};
-ghost use Rattle.vd_command.specs.Words.{texts_of, IsActionFor, IsActionOf};
+ghost use Rattle.vd_command.specs.Words.{texts_of, job_of, job_of_meaning, IsActionFor};
 
 use crate::action::Action;
 use std::alloc::{AllocError, Global};
@@ -10,7 +10,7 @@ use vd_words::{Command, Mode, WordsEnd, read_words};
 
 /// What is to be done for these words.
 pub fn action_of(alloc: Global, words: &Vec<String>) -> Result<Action, AllocError>
-    ensures { IfOk result (λ action. IsActionOf action (texts_of words.now.items)) }
+    ensures { IfOk result (λ action. IsActionFor action (job_of (texts_of words.now.items))) }
 {
     match read_words(alloc, words) {
         Ok(command) => Ok(action_for(command)),
@@ -21,11 +21,17 @@ pub fn action_of(alloc: Global, words: &Vec<String>) -> Result<Action, AllocErro
 
 // What is to be done for a command: the words are taken where the program has its mode, and that takes so many FILEs.
 fn action_for(command: Command) -> Action
-    ensures { IsActionFor result (meaning_in command) }
+    ensures { IsActionFor result (job_of_meaning (meaning_in command)) }
 {
-    let Command { mode, files, .. } = command;
+    let Command {
+        mode,
+        tool_type,
+        files,
+        ..
+    } = command;
     match mode {
         Mode::Convert if files.as_slice().len() == 1 => Action::Convert(files),
+        Mode::Check => Action::Check(tool_type, files),
         _ => Action::RefuseWords,
     }
 }

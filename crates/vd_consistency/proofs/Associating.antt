@@ -8,10 +8,10 @@ use Rattle.vd_composites.specs.Composites.{leaves}
 use Rattle.vd_environments.specs.Got.{senseless}
 use Rattle.vd_environments.specs.Environments.{ScalarSignal, Env, Indicated}
 use Rattle.vd_meaning.specs.Facets.{Objects}
-use Rattle.vd_elaboration.specs.Layouts.{Leaf, Counted}
-use Rattle.vd_elaboration.specs.Building.{Mode, Input, Output, BothWays, ScalarObject, PortSource, Made, Built, evaluated, looking, inside_instance, counted, layout_of, size_of_object, same_scalar_type, first_of_object, is_such, is_among, Start, plain_start, seen_in, is_out_at, signals_of, State, with_object}
-use Rattle.vd_elaboration.specs.Facets.{ElementMode, View, Ports, Actual}
-use Rattle.vd_elaboration.specs.Instances.{names_formal, named_actual, nth_actual, or_placed, unless_open, actual_for, generic_value, with_generic, with_generics_of, with_generics, Port, default_value, port_indicated, port_modes, modes_of_port, some_port, ports_named, ports_of, open_starts, tied_start, tied_starts, port_sources, have_one_type, tied_port, open_port}
+use Rattle.vd_meaning.specs.Layouts.{Leaf, Counted}
+use Rattle.vd_meaning.specs.Building.{Mode, Input, Output, BothWays, ScalarObject, PortSource, Made, Built, evaluated, looking, inside_instance, counted, layout_of, size_of_object, same_scalar_type, first_of_object, is_such, is_among, Start, plain_start, seen_in, is_out_at, signals_of, State, with_object}
+use Rattle.vd_meaning.specs.NodeFacets.{ElementMode, View, Ports, Actual}
+use Rattle.vd_meaning.specs.Instances.{names_formal, named_actual, nth_actual, or_placed, unless_open, actual_for, generic_value, with_generic, with_generics_of, with_generics, Port, default_value, port_indicated, port_modes, modes_of_port, some_port, ports_named, ports_of, open_starts, tied_start, tied_starts, port_sources, have_one_type, tied_port, open_port}
 use Rattle.vd_consistency.specs.Invariants.{HasSignals, KeepsMeaning, IsTied, AreSound, IsState, IsGrown}
 use Rattle.vd_consistency.proofs.Steps.{after, after_any, joined}
 use Rattle.vd_consistency.proofs.Running.{denoting_keeps}
@@ -193,7 +193,7 @@ pub open_port_keeps : (inner : Scope) (p : Port) (xs : List Scalar) → IsPort p
 open_port_keeps inner p xs k b s h =
     object_keeps inner p.name p.indicated (open_starts p.modes xs) s h (open_all (length s.made.signals) (leaves (layout_of p.indicated)) p.modes xs b k.modes) p.number
 
-more_sources : (signals : List ScalarObject) (old new : List PortSource) (driven : List ℕ) (processes : List Rattle.vd_elaboration.specs.Building.Placed) → AreSound signals old driven processes
+more_sources : (signals : List ScalarObject) (old new : List PortSource) (driven : List ℕ) (processes : List Rattle.vd_meaning.specs.Building.Placed) → AreSound signals old driven processes
     → AllByRecursion (IsTied signals) new → AreSound signals (old ++ new) driven processes
 more_sources signals old new driven processes h k =
     record { of_driven = h.of_driven; of_sources = joined (IsTied signals) old new h.of_sources k; of_actuals = h.of_actuals; of_signals = h.of_signals; of_drivers = h.of_drivers; of_processes = h.of_processes }

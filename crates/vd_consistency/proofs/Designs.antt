@@ -15,8 +15,8 @@ use Rattle.vd_composites.specs.declared.scalars.ScalarType.TheVariants.{Enumerat
 use Rattle.vd_composites.specs.Ranges.{is_within}
 use Rattle.vd_composites.specs.Scalars.{position_of, is_of, whole_range}
 use Rattle.vd_environments.specs.Processes.{Running}
-use Rattle.vd_elaboration.specs.Building.{ScalarObject, PortSource, Placed, Made, same_scalar_type, is_among}
-use Rattle.vd_elaboration.specs.Elaborations.{drivers_of, ports_of, is_input, inputs_from, signals_from, shape_of}
+use Rattle.vd_meaning.specs.Building.{ScalarObject, PortSource, Placed, Made, same_scalar_type, is_among}
+use Rattle.vd_meaning.specs.Elaborations.{drivers_of, ports_of, is_input, inputs_from, signals_from, shape_of}
 use Rattle.vd_consistency.specs.Consistency.{IsSignalOf, IsSourceIn, IsInRange, drivers_among, places_of, tied_to, IsNewer, SaysTheSame, IsLogic, BeginsInType, BeginWithLogic, after_turns, IsFrom, AssignsWithin, OwnsDrivers, ShareOut, AssignsBelow, StaysBelow, StaysWaiting, IsConsistent, DesignsAreConsistent}
 use Rattle.vd_consistency.specs.Invariants.{BeginsWell, HaveOlder, IsTied, StaysRunning, IsSound}
 use Rattle.vd_consistency.proofs.Steps.{joined, weaker}

@@ -11,11 +11,11 @@ use Rattle.vd_composites.specs.Subtypes.{Subtype, fit, default_of}
 use Rattle.vd_environments.specs.Got.{Got, got, senseless}
 use Rattle.vd_environments.specs.Environments.{ScalarSignal, Signals, Env, Indicated}
 use Rattle.vd_meaning.specs.Facets.{Meaning, at_once}
-use Rattle.vd_elaboration.specs.Layouts.{Leaf, numbered, all_numbered}
-use Rattle.vd_elaboration.specs.Building.{Made, Built, evaluated, looking, inside_instance, counted, layout_of, size_of_object, first_of_object, is_among, plain_start, is_out_at, signals_of, State}
-use Rattle.vd_elaboration.specs.Facets.{View, Ports, Actual, Instance}
-use Rattle.vd_elaboration.specs.Instances.{Port, scalar_limits, same_length, have_one_type, as_long, ties, is_signal, is_implicit, implicit_name, target_named, implicit_process, added, with_implicit}
-use Rattle.vd_elaboration.specs.Hierarchies.{EntityText, port_actual, implicit_subtype, if_implicit, for_names, for_implicit, count_implicit, make_implicit, implicit_scalars, port_scalars, Associating, with_signal_actual, with_value_actual, with_implicit_actual, associated, all_associated}
+use Rattle.vd_meaning.specs.Layouts.{Leaf, numbered, all_numbered}
+use Rattle.vd_meaning.specs.Building.{Made, Built, evaluated, looking, inside_instance, counted, layout_of, size_of_object, first_of_object, is_among, plain_start, is_out_at, signals_of, State}
+use Rattle.vd_meaning.specs.NodeFacets.{View, Ports, Actual, Instance}
+use Rattle.vd_meaning.specs.Instances.{Port, scalar_limits, same_length, have_one_type, as_long, ties, is_signal, is_implicit, implicit_name, target_named, implicit_process, added, with_implicit}
+use Rattle.vd_meaning.specs.Hierarchies.{EntityText, port_actual, implicit_subtype, if_implicit, for_names, for_implicit, count_implicit, make_implicit, implicit_scalars, port_scalars, Associating, with_signal_actual, with_value_actual, with_implicit_actual, associated, all_associated}
 use Rattle.vd_consistency.specs.Invariants.{AreOf, HasSignals, KeepsMeaning, IsState, IsGrown, Builds, KeepsInstance}
 use Rattle.vd_consistency.proofs.Steps.{after, after_any, either}
 use Rattle.vd_consistency.proofs.Parting.{leaves_of}
@@ -166,7 +166,7 @@ recounted s h n = record { state = record { has = h.has; sound = h.sound }; grow
 
 pub counted_keeps : (n : ℕ) (m : Made) (S : State → Type 0) (f : Made → Built State) → ((k : ℕ) → IfOk (f (record m { counted = k })) S) → IfOk (counted n m >>= f) S
 counted_keeps n m S f k = within (Rattle.std.specs.Prelude.nat_lt 1000000 (m.counted + n)) where
-  within : (b : Bool) → IfOk ((if b then Err (Rattle.vd_elaboration.specs.Building.Limited Rattle.vd_bytes.specs.declared.answers.Limit.TheVariants.Signals) else Ok (record m { counted = m.counted + n })) >>= f) S
+  within : (b : Bool) → IfOk ((if b then Err (Rattle.vd_meaning.specs.Building.Limited Rattle.vd_bytes.specs.declared.answers.Limit.TheVariants.Signals) else Ok (record m { counted = m.counted + n })) >>= f) S
   within true = tt
   within false = k (m.counted + n)
 

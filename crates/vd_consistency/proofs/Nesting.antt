@@ -4,10 +4,10 @@ use Rattle.std.specs.Prelude.{◌&&◌, Ok, Err, IfSome, bytes_eq, if◌then◌e
 use Rattle.std.specs.List.{AllByRecursion}
 use Rattle.vd_trees.specs.declared.paths.Scope.{Scope}
 use Rattle.vd_composites.specs.Stops.{◌>>=◌}
-use Rattle.vd_elaboration.specs.Building.{Built, inside_instance, is_among, State}
-use Rattle.vd_elaboration.specs.Facets.{View, Instance, Hierarchy, Unit', EntityUnit, ArchitectureUnit, PackageUnit}
-use Rattle.vd_elaboration.specs.Instances.{with_generics, ports_of}
-use Rattle.vd_elaboration.specs.Hierarchies.{EntityText, ArchitectureText, generic_actual, make_implicit, count_implicit, for_implicit, all_associated, label_of, leaving, entity_elaborated, instance_of, ahead_of, hierarchy, is_wanted, entity_in, architecture_in}
+use Rattle.vd_meaning.specs.Building.{Built, inside_instance, is_among, State}
+use Rattle.vd_meaning.specs.NodeFacets.{View, Instance, Hierarchy, Unit', EntityUnit, ArchitectureUnit, PackageUnit}
+use Rattle.vd_meaning.specs.Instances.{with_generics, ports_of}
+use Rattle.vd_meaning.specs.Hierarchies.{EntityText, ArchitectureText, generic_actual, make_implicit, count_implicit, for_implicit, all_associated, label_of, leaving, entity_elaborated, instance_of, ahead_of, hierarchy, is_wanted, entity_in, architecture_in}
 use Rattle.vd_consistency.specs.Invariants.{HasSignals, IsState, IsGrown, Builds, KeepsInstance, KeepsHierarchy, KeepsElaborating, KeepsUnit}
 use Rattle.vd_consistency.proofs.Steps.{after}
 use Rattle.vd_consistency.proofs.Running.{has_more}

@@ -13,9 +13,9 @@ use Rattle.vd_composites.specs.Composites.{Value, One, Array, Fields, Items, non
 use Rattle.vd_environments.specs.Got.{Got, senseless}
 use Rattle.vd_environments.specs.Environments.{ScalarSignal, of_the_type, Indicated}
 use Rattle.vd_environments.specs.Processes.{Process, Running, Elaborated, elaborated}
-use Rattle.vd_elaboration.specs.Layouts.{Leaf, numbered, all_numbered}
-use Rattle.vd_elaboration.specs.Building.{ScalarObject, PortSource, Placed, Made, Built, evaluated, layout_of, same_scalar_type, first_value, first_values, first_of_object, is_such, is_among, Start, scalar_objects, is_out_at, signals_of, State, with_object, plain_start, placed, with_process, with_processes}
-use Rattle.vd_elaboration.specs.Instances.{added}
+use Rattle.vd_meaning.specs.Layouts.{Leaf, numbered, all_numbered}
+use Rattle.vd_meaning.specs.Building.{ScalarObject, PortSource, Placed, Made, Built, evaluated, layout_of, same_scalar_type, first_value, first_values, first_of_object, is_such, is_among, Start, scalar_objects, is_out_at, signals_of, State, with_object, plain_start, placed, with_process, with_processes}
+use Rattle.vd_meaning.specs.Instances.{added}
 use Rattle.vd_consistency.specs.Consistency.{OwnsDrivers, ShareOut}
 use Rattle.vd_consistency.specs.Invariants.{AreOf, AllAreOf, HasSignals, IsNumberOf, IsRunning, IsProcess, KeepsProcess, StaysRunning, BeginsWell, HaveOlder, IsTied, AreSound, IsSound, IsState, Grows, IsGrown, Builds}
 use Rattle.vd_consistency.proofs.Steps.{after, either, joined, weaker}

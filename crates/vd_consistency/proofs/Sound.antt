@@ -13,11 +13,11 @@ use Rattle.vd_meaning.specs.Facets.{Objects, Formal, FormalConstants, FormalType
 use Rattle.vd_meaning.specs.Generics.{constant_value, with_constant, next_actual, later_actuals, with_constants, behind_constants, with_type, with_generics, taken}
 use Rattle.vd_meaning.specs.Tables.{table}
 use Rattle.vd_meaning.specs.Given.{marks, denoted_in}
-use Rattle.vd_elaboration.specs.Building.{Made, Built, is_among, State}
-use Rattle.vd_elaboration.specs.Facets.{Hierarchy, PackageSort, PlainPackage, GenericPackage, BodyOfPackage, InstanceOfPackage, PackageText, Unit', EntityUnit, ArchitectureUnit, PackageUnit}
-use Rattle.vd_elaboration.specs.Hierarchies.{EntityText, ArchitectureText, entity_in, architecture_in}
-use Rattle.vd_elaboration.specs.Parts.{parts}
-use Rattle.vd_elaboration.specs.Elaborations.{package_scope, is_generic, is_body, package_in, declarations_of, instance_declared, instance_elaborated, unless_generic, elaborated_by, package_elaborated, with_packages, Top, top_instance, top_scope, top_elaborated, Elaboration, Elaborates, Fails, NoTop, of_built, Units, units_of, hierarchy_of, beginning, elaborated_with, elaborated_units, elaboration}
+use Rattle.vd_meaning.specs.Building.{Made, Built, is_among, State}
+use Rattle.vd_meaning.specs.NodeFacets.{Hierarchy, PackageSort, PlainPackage, GenericPackage, BodyOfPackage, InstanceOfPackage, PackageText, Unit', EntityUnit, ArchitectureUnit, PackageUnit}
+use Rattle.vd_meaning.specs.Hierarchies.{EntityText, ArchitectureText, entity_in, architecture_in}
+use Rattle.vd_meaning.specs.Parts.{parts}
+use Rattle.vd_meaning.specs.Elaborations.{package_scope, is_generic, is_body, package_in, declarations_of, instance_declared, instance_elaborated, unless_generic, elaborated_by, package_elaborated, with_packages, Top, top_instance, top_scope, top_elaborated, Elaboration, Elaborates, Fails, NoTop, of_built, Units, units_of, hierarchy_of, beginning, elaborated_with, elaborated_units, elaboration}
 use Rattle.vd_consistency.specs.Invariants.{AreOf, HasSignals, IsEnv, Keeps, KeepsPackage, IsSound, IsState, IsGrown, Builds, KeepsHierarchy, KeepsUnit}
 use Rattle.vd_consistency.proofs.Steps.{after, after_any, joined}
 use Rattle.vd_consistency.proofs.Running.{denoting_env}

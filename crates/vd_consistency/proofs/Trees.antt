@@ -21,10 +21,10 @@ use Rattle.vd_meaning.specs.Statements.{truth_of, values_of_range}
 use Rattle.vd_meaning.specs.Declarations.{initial_value}
 use Rattle.vd_meaning.specs.Meanings.{node_meaning, made}
 use Rattle.vd_meaning.specs.Kinds
-use Rattle.vd_elaboration.specs.Building.{Made, Built, inside_generate, layout_of, size_of_object, first_of_object, is_among, State, plain_start, with_signal}
-use Rattle.vd_elaboration.specs.Facets.{Actual, Elaborating, nothing_to_do, one_after_other, Unit', Part, of_meaning, nth, from, last_of, gathered}
-use Rattle.vd_elaboration.specs.Hierarchies.{label_of}
-use Rattle.vd_elaboration.specs.Parts
+use Rattle.vd_meaning.specs.Building.{Made, Built, inside_generate, layout_of, size_of_object, first_of_object, is_among, State, plain_start, with_signal}
+use Rattle.vd_meaning.specs.NodeFacets.{Actual, Elaborating, nothing_to_do, one_after_other, Unit', Part, of_meaning, nth, from, last_of, gathered}
+use Rattle.vd_meaning.specs.Hierarchies.{label_of}
+use Rattle.vd_meaning.specs.Parts
 use Rattle.vd_consistency.specs.Invariants.{IsEnv, KeepsMeaning, IsState, IsGrown, Builds, KeepsInstance, KeepsElaborating, KeepsUnit, KeepsPartFacets, KeepsPart}
 use Rattle.vd_consistency.proofs.Steps.{joined}
 use Rattle.vd_consistency.proofs.Running.{denoting_keeps, run_keeps}

@@ -14,8 +14,8 @@ use Rattle.vd_composites.specs.Ranges.{is_within}
 use Rattle.vd_composites.specs.Scalars.{position_of, is_of, whole_range}
 use Rattle.vd_resolved.specs.Trees.{ResolvedTree}
 use Rattle.vd_environments.specs.Processes.{Running, step}
-use Rattle.vd_elaboration.specs.Building.{is_output, ScalarObject, PortSource, Placed, Made}
-use Rattle.vd_elaboration.specs.Elaborations.{Top, elaboration, Elaborates, shape_of}
+use Rattle.vd_meaning.specs.Building.{is_output, ScalarObject, PortSource, Placed, Made}
+use Rattle.vd_meaning.specs.Elaborations.{Top, elaboration, Elaborates, shape_of}
 
 -- ---- its signals are those of its list, in order
 

@@ -13,8 +13,8 @@ use Rattle.vd_environments.specs.Commands.{Effect, Command, Skip, Act, Then, Cho
 use Rattle.vd_environments.specs.Processes.{Process, Running}
 use Rattle.vd_meaning.specs.Names.{Named}
 use Rattle.vd_meaning.specs.Facets.{Meaning, Waveform, Comparison}
-use Rattle.vd_elaboration.specs.Building.{ScalarObject, PortSource, Placed, Made, same_scalar_type, is_among, Built, State}
-use Rattle.vd_elaboration.specs.Facets.{Actual, Instance, Hierarchy, Elaborating, PackageText, Unit', EntityUnit, ArchitectureUnit, PackageUnit, Part}
+use Rattle.vd_meaning.specs.Building.{ScalarObject, PortSource, Placed, Made, same_scalar_type, is_among, Built, State}
+use Rattle.vd_meaning.specs.NodeFacets.{Actual, Instance, Hierarchy, Elaborating, PackageText, Unit', EntityUnit, ArchitectureUnit, PackageUnit, Part}
 use Rattle.vd_consistency.specs.Consistency.{BeginsInType, ShareOut}
 
 -- ---- signals of some sort: scalar signals that pass a test

@@ -12,10 +12,10 @@ use Rattle.vd_composites.specs.Subtypes.{fit, default_of}
 use Rattle.vd_environments.specs.Got.{Got, got}
 use Rattle.vd_environments.specs.Environments.{ScalarSignal, Signals, is_static, no_subtype, no_make, unknown, Env, Indicated}
 use Rattle.vd_meaning.specs.Facets.{Meaning, Objects, at_once}
-use Rattle.vd_elaboration.specs.Building.{Made, Built, Failing, Limited, evaluated, looking, inside_instance, counted, layout_of, size_of_object, first_of_object, is_among, Start, plain_start, seen_in, signals_of, scalar_objects, State}
-use Rattle.vd_elaboration.specs.Facets.{View, Ports, Actual, Instance, Hierarchy}
-use Rattle.vd_elaboration.specs.Instances.{Port, port_indicated, tied_starts, port_sources, ties, tied_port, open_port, open_starts, is_signal, is_implicit, implicit_name, target_named, implicit_process, added, with_implicit}
-use Rattle.vd_elaboration.specs.Hierarchies.{EntityText, ArchitectureText, is_named, takes_default, with_default, needed, default_put, put_value, put, put_all, put_generics, generic_actual, port_actual, implicit_subtype, if_implicit, for_names, for_implicit, count_implicit, make_implicit, implicit_scalars, port_scalars, Associating, with_signal_actual, with_value_actual, with_implicit_actual, associated, all_associated, leaving, entity_elaborated}
+use Rattle.vd_meaning.specs.Building.{Made, Built, Failing, Limited, evaluated, looking, inside_instance, counted, layout_of, size_of_object, first_of_object, is_among, Start, plain_start, seen_in, signals_of, scalar_objects, State}
+use Rattle.vd_meaning.specs.NodeFacets.{View, Ports, Actual, Instance, Hierarchy}
+use Rattle.vd_meaning.specs.Instances.{Port, port_indicated, tied_starts, port_sources, ties, tied_port, open_port, open_starts, is_signal, is_implicit, implicit_name, target_named, implicit_process, added, with_implicit}
+use Rattle.vd_meaning.specs.Hierarchies.{EntityText, ArchitectureText, is_named, takes_default, with_default, needed, default_put, put_value, put, put_all, put_generics, generic_actual, port_actual, implicit_subtype, if_implicit, for_names, for_implicit, count_implicit, make_implicit, implicit_scalars, port_scalars, Associating, with_signal_actual, with_value_actual, with_implicit_actual, associated, all_associated, leaving, entity_elaborated}
 use Rattle.vd_meaning_laws.specs.Agreement.{Link, IsApart, Agree, number_in}
 use Rattle.vd_meaning_laws.specs.Renumbering.{AlikeName, AlikeValues, AlikeObjects, AlikeMeaning, AlikeProcess}
 use Rattle.vd_meaning_laws.proofs.Agreeing.{at}
@@ -40,7 +40,7 @@ module _ (l : Link) (numbers : IsApart l) where
 
   tied_alike : (inner : Scope) (p : Port) (ns : List ScalarSignal) (s t : State) → AlikeState l s t → AlikeState l (tied_port inner p ns s) (tied_port inner (port_in l numbers p) ns t)
   tied_alike inner p ns s t h =
-      let o = subst (λ x. AlikeState l (Rattle.vd_elaboration.specs.Building.with_object inner p.number p.name p.indicated (tied_starts s.made p.modes p.initial ns) s) (Rattle.vd_elaboration.specs.Building.with_object inner (l.number p.number) p.name p.indicated x t))
+      let o = subst (λ x. AlikeState l (Rattle.vd_meaning.specs.Building.with_object inner p.number p.name p.indicated (tied_starts s.made p.modes p.initial ns) s) (Rattle.vd_meaning.specs.Building.with_object inner (l.number p.number) p.name p.indicated x t))
       (sym (starts_same s.made t.made h.made.signals p ns)) (object_alike l numbers inner p.number p.name p.indicated (tied_starts s.made p.modes p.initial ns) s t h) in
       record {
         env = o.env;
@@ -350,7 +350,7 @@ module _ (l : Link) (numbers : IsApart l) where
       → AlikeStates l (with_implicit scope name i m s) (with_implicit scope name i n t)
   with_implicit_alike scope name i m n h s t k =
       let starts = map plain_start (leaves (default_of i.subtype)) in
-      subst (λ signals. AlikeStates l (with_implicit scope name i m s) (Rattle.vd_elaboration.specs.Building.with_process scope (implicit_process i signals n) (added scope name i starts t)))
+      subst (λ signals. AlikeStates l (with_implicit scope name i m s) (Rattle.vd_meaning.specs.Building.with_process scope (implicit_process i signals n) (added scope name i starts t)))
       (sym (signals_same l numbers i s.made t.made k.made.signals starts))
       (process_alike l numbers scope (implicit_process i (signals_of i s.made starts) m) (implicit_process i (signals_of i s.made starts) n) (process_same i (signals_of i s.made starts) m n h) _ _ (added_alike scope name i starts s t k))
 

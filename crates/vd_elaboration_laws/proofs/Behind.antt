@@ -7,7 +7,7 @@ use Rattle.vd_resolved.specs.Validity.{IsOwn}
 use Rattle.vd_composites.specs.Composites.{Value}
 use Rattle.vd_environments.specs.Environments.{Indicated, nothing_denoted}
 use Rattle.vd_meaning.specs.Given.{denoted_in, marks}
-use Rattle.vd_elaboration.specs.Elaborations.{beginning, elaboration}
+use Rattle.vd_meaning.specs.Elaborations.{beginning, elaboration}
 use Rattle.vd_meaning_laws.specs.Agreement.{Link}
 use Rattle.vd_meaning_laws.specs.Appending.{moved, appended}
 use Rattle.vd_meaning_laws.proofs.Appending.{stays, same_number, small, head_of, rest_of, some_given, is_apart, same_tables, own_trees}

@@ -12,7 +12,7 @@ use Rattle.vd_environments.specs.Got.{Got}
 use Rattle.vd_environments.specs.Environments.{Env, Indicated, with_signals}
 use Rattle.vd_environments.specs.Processes.{Process, Elaborated, elaborated}
 use Rattle.vd_meaning.specs.Given.{elaborating}
-use Rattle.vd_elaboration.specs.Building.{ScalarObject, Placed, Made, Failing, Limited, Built, evaluated, seen_in, looking, counted, layout_of, Start, scalar_objects, signals_of, State, with_object, with_signal, plain_start, placed, with_process, with_processes}
+use Rattle.vd_meaning.specs.Building.{ScalarObject, Placed, Made, Failing, Limited, Built, evaluated, seen_in, looking, counted, layout_of, Start, scalar_objects, signals_of, State, with_object, with_signal, plain_start, placed, with_process, with_processes}
 use Rattle.vd_meaning_laws.specs.Agreement.{Link, IsApart, Agree}
 use Rattle.vd_meaning_laws.specs.Renumbering.{AlikeProcess}
 use Rattle.vd_meaning_laws.specs.Laws.{SameElaborated}
@@ -100,7 +100,7 @@ module _ (l : Link) (numbers : IsApart l) where
   with_elaborated : (scope : Scope) (g g' : Got Elaborated) → SameElaborated l g g' → (s t : State) → AlikeState l s t
       → AlikeStates l (evaluated scope g >>= λ q. Ok (record s { made = placed scope q s.made })) (evaluated scope g' >>= λ q. Ok (record t { made = placed scope q t.made }))
   with_elaborated scope (Ok p) (Ok q) h s t a = record { env = a.env; made = placed_alike scope p q h s.made t.made a.made }
-  with_elaborated scope (Err x) (Err y) h s t a = λ i. Rattle.vd_elaboration.specs.Building.Stopped (h i) scope
+  with_elaborated scope (Err x) (Err y) h s t a = λ i. Rattle.vd_meaning.specs.Building.Stopped (h i) scope
   with_elaborated scope (Ok p) (Err y) h s t a = absurd h
   with_elaborated scope (Err x) (Ok q) h s t a = absurd h
 

@@ -17,10 +17,10 @@ use Rattle.vd_meaning.specs.Brackets.{or_else}
 use Rattle.vd_meaning.specs.Statements.{truth_of, values_of_range}
 use Rattle.vd_meaning.specs.Declarations.{initial_value, new_objects}
 use Rattle.vd_meaning.specs.Meanings.{made}
-use Rattle.vd_elaboration.specs.Building.{Mode, Made, Built, evaluated, inside_generate, counted, size_of_object, first_of_object, State, with_signal, with_processes}
-use Rattle.vd_elaboration.specs.Facets.{ElementMode, ByView, Elaborating, nothing_to_do, one_after_other, PlainPackage, GenericPackage, Unit', EntityUnit, ArchitectureUnit, PackageUnit, Part, of_meaning, nth, from, last_of, gathered}
-use Rattle.vd_elaboration.specs.Hierarchies.{label_of}
-use Rattle.vd_elaboration.specs.Parts
+use Rattle.vd_meaning.specs.Building.{Mode, Made, Built, evaluated, inside_generate, counted, size_of_object, first_of_object, State, with_signal, with_processes}
+use Rattle.vd_meaning.specs.NodeFacets.{ElementMode, ByView, Elaborating, nothing_to_do, one_after_other, PlainPackage, GenericPackage, Unit', EntityUnit, ArchitectureUnit, PackageUnit, Part, of_meaning, nth, from, last_of, gathered}
+use Rattle.vd_meaning.specs.Hierarchies.{label_of}
+use Rattle.vd_meaning.specs.Parts
 use Rattle.vd_meaning_laws.specs.Agreement.{Link, IsApart, through, Agree, Alike, AgreeAfter, number_in}
 use Rattle.vd_meaning_laws.specs.Renumbering.{AlikeMeaning, AlikeObjects, renumbered}
 use Rattle.vd_meaning_laws.proofs.Agreeing.{at}
@@ -174,7 +174,7 @@ module _ (l : Link) (numbers : IsApart l) where
   got_env : (scope : Scope) (g g' : Got Env) → AgreeAfter l g g' → (s t : State) → AlikeState l s t
       → AlikeStates l (evaluated scope g >>= λ e. Ok (Parts.with_environment s e)) (evaluated scope g' >>= λ e. Ok (Parts.with_environment t e))
   got_env scope (Ok e) (Ok e') h s t a = record { env = h; made = a.made }
-  got_env scope (Err x) (Err y) h s t a = λ i. Rattle.vd_elaboration.specs.Building.Stopped (h i) scope
+  got_env scope (Err x) (Err y) h s t a = λ i. Rattle.vd_meaning.specs.Building.Stopped (h i) scope
   got_env scope (Ok e) (Err y) h s t a = absurd h
   got_env scope (Err x) (Ok e') h s t a = absurd h
 

@@ -9,8 +9,8 @@ use Rattle.vd_kernel.specs.Traces as kernel
 use Rattle.vd_kernel.specs.Traces.{Shows, Stopped, Done, Quiet, Halted, TwoSources, with_two, trace}
 use Rattle.vd_kernel.specs.Correspondence.{BothOrNone, SameSource, SameSignal, SameShape, SameStep, SameOutcome, SameEnd, SameRun}
 use Rattle.vd_trees.specs.Traces.{shows, stops}
-use Rattle.vd_elaboration.specs.Building.{Placed, Made}
-use Rattle.vd_elaboration.specs.Elaborations.{stop_text, shape_of, model_of, process_scope, values_from, outcome_of, step_of, end_of, trace_of, printed, design_trace_text, Elaborates, Fails, NoTop, failed_trace}
+use Rattle.vd_meaning.specs.Building.{Placed, Made}
+use Rattle.vd_meaning.specs.Elaborations.{stop_text, shape_of, model_of, process_scope, values_from, outcome_of, step_of, end_of, trace_of, printed, design_trace_text, Elaborates, Fails, NoTop, failed_trace}
 use Rattle.vd_trees.specs.TraceText.{trace_text}
 use Rattle.vd_meaning_laws.specs.Agreement.{Link, IsApart, AlikeRunning}
 use Rattle.vd_meaning_laws.proofs.Running.{processes_run_alike}

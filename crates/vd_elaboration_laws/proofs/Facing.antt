@@ -5,7 +5,7 @@ use Rattle.vd_values.specs.declared.scalar.Scalar.{Scalar}
 use Rattle.vd_composites.specs.Composites.{Value}
 use Rattle.vd_environments.specs.Got.{Got}
 use Rattle.vd_environments.specs.Environments.{Env}
-use Rattle.vd_elaboration.specs.Facets.{ElementMode, ViewElement, View, Ports, Actual, Elaborating, Unit', Part}
+use Rattle.vd_meaning.specs.NodeFacets.{ElementMode, ViewElement, View, Ports, Actual, Elaborating, Unit', Part}
 use Rattle.vd_meaning_laws.specs.Agreement.{Link, Alike, number_in}
 use Rattle.vd_elaboration_laws.specs.Agreement.{element_mode_in, element_in, view_under, AlikePorts, AlikeActual, AlikeElaborating, AlikeUnit, AlikePart}
 

@@ -10,9 +10,9 @@ use Rattle.vd_environments.specs.Environments.{Env}
 use Rattle.vd_environments.specs.Processes.{declared}
 use Rattle.vd_meaning.specs.Generics.{with_generics, taken}
 use Rattle.vd_meaning.specs.Brackets.{or_else}
-use Rattle.vd_elaboration.specs.Building.{evaluated, Stopped, State}
-use Rattle.vd_elaboration.specs.Facets.{ElementMode, ByMode, ByView, ViewElement, View, Hierarchy, PackageSort, PlainPackage, GenericPackage, BodyOfPackage, InstanceOfPackage, PackageText, Unit', EntityUnit, ArchitectureUnit, PackageUnit}
-use Rattle.vd_elaboration.specs.Elaborations.{package_scope, is_generic, is_body, package_in, declarations_of, instance_declared, instance_elaborated, unless_generic, elaborated_by, package_elaborated, with_packages, copied, number_as, mode_as, element_as, view_as, views_as, views_of_instances}
+use Rattle.vd_meaning.specs.Building.{evaluated, Stopped, State}
+use Rattle.vd_meaning.specs.NodeFacets.{ElementMode, ByMode, ByView, ViewElement, View, Hierarchy, PackageSort, PlainPackage, GenericPackage, BodyOfPackage, InstanceOfPackage, PackageText, Unit', EntityUnit, ArchitectureUnit, PackageUnit}
+use Rattle.vd_meaning.specs.Elaborations.{package_scope, is_generic, is_body, package_in, declarations_of, instance_declared, instance_elaborated, unless_generic, elaborated_by, package_elaborated, with_packages, copied, number_as, mode_as, element_as, view_as, views_as, views_of_instances}
 use Rattle.vd_meaning_laws.specs.Agreement.{Link, IsApart, number_in, Agree, AgreeAfter, AlikeCommands}
 use Rattle.vd_meaning_laws.proofs.Agreeing.{at}
 use Rattle.vd_meaning_laws.specs.Renumbering.{pair_in}

@@ -14,10 +14,10 @@ use Rattle.vd_environments.specs.Environments.{with_object as with_constant}
 use Rattle.vd_environments.specs.Environments.{Make, OfScalar, OfElements, OfFields, Makes, no_makes, and_make, Env, Indicated, or_senseless}
 use Rattle.vd_meaning.specs.Tables.{same_type}
 use Rattle.vd_meaning.specs.Facets.{Meaning, Objects}
-use Rattle.vd_elaboration.specs.Layouts.{Leaf, Counted}
-use Rattle.vd_elaboration.specs.Building.{Mode, Made, Built, evaluated, counted, layout_of, size_of_object, first_of_object}
-use Rattle.vd_elaboration.specs.Facets.{ElementMode, ByMode, ByView, ViewElement, View, Ports, Actual}
-use Rattle.vd_elaboration.specs.Instances.{differ, view_in, element_mode, modes_of_fields, modes_of_view, modes_by, port_modes, names_formal, named_actual, nth_actual, or_placed, unless_open, actual_for, generic_value, known_early, with_generic, with_generics_of, with_generics, Port, default_value, marked_by, view_subtype, port_indicated, modes_of_port, some_port, ports_named, ports_of}
+use Rattle.vd_meaning.specs.Layouts.{Leaf, Counted}
+use Rattle.vd_meaning.specs.Building.{Mode, Made, Built, evaluated, counted, layout_of, size_of_object, first_of_object}
+use Rattle.vd_meaning.specs.NodeFacets.{ElementMode, ByMode, ByView, ViewElement, View, Ports, Actual}
+use Rattle.vd_meaning.specs.Instances.{differ, view_in, element_mode, modes_of_fields, modes_of_view, modes_by, port_modes, names_formal, named_actual, nth_actual, or_placed, unless_open, actual_for, generic_value, known_early, with_generic, with_generics_of, with_generics, Port, default_value, marked_by, view_subtype, port_indicated, modes_of_port, some_port, ports_named, ports_of}
 use Rattle.vd_meaning_laws.specs.Agreement.{Link, IsApart, through, Agree, number_in}
 use Rattle.vd_meaning_laws.specs.Renumbering.{AlikeValues, AlikeMeaning, AlikeObjects}
 use Rattle.vd_meaning_laws.proofs.Agreeing.{at, denoting_agrees}

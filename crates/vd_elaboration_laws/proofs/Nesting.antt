@@ -4,9 +4,9 @@ use Rattle.std.specs.Prelude.{◌&&◌, bytes_eq, if◌then◌else◌}
 use Rattle.std.specs.List.{AllZip}
 use Rattle.vd_kernel.specs.Correspondence.{BothOrNone}
 use Rattle.vd_trees.specs.declared.paths.Scope.{Scope}
-use Rattle.vd_elaboration.specs.Building.{inside_instance, State}
-use Rattle.vd_elaboration.specs.Facets.{View, Instance, Hierarchy, Unit', EntityUnit, ArchitectureUnit, PackageUnit}
-use Rattle.vd_elaboration.specs.Hierarchies.{EntityText, entity_in, ArchitectureText, is_wanted, architecture_in, make_implicit, count_implicit, label_of, entity_elaborated, instance_of, ahead_of, hierarchy}
+use Rattle.vd_meaning.specs.Building.{inside_instance, State}
+use Rattle.vd_meaning.specs.NodeFacets.{View, Instance, Hierarchy, Unit', EntityUnit, ArchitectureUnit, PackageUnit}
+use Rattle.vd_meaning.specs.Hierarchies.{EntityText, entity_in, ArchitectureText, is_wanted, architecture_in, make_implicit, count_implicit, label_of, entity_elaborated, instance_of, ahead_of, hierarchy}
 use Rattle.vd_meaning_laws.specs.Agreement.{Link, IsApart}
 use Rattle.vd_elaboration_laws.specs.Agreement.{view_under, AlikeInstance, AlikeState, AlikeStates, AlikeHierarchy, AlikeUnit}
 use Rattle.vd_elaboration_laws.proofs.Built.{built_then}

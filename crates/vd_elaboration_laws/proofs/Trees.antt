@@ -9,11 +9,11 @@ use Rattle.vd_resolved.specs.declared.node.Resolved.{Resolved}
 use Rattle.vd_composites.specs.Composites.{Value}
 use Rattle.vd_meaning.specs.Tables.{Table, table}
 use Rattle.vd_meaning.specs.Kinds
-use Rattle.vd_elaboration.specs.Building.{Built, State}
-use Rattle.vd_elaboration.specs.Facets.{View, Hierarchy, Part}
-use Rattle.vd_elaboration.specs.Hierarchies.{EntityText, ArchitectureText, entity_in, architecture_in, hierarchy}
-use Rattle.vd_elaboration.specs.Parts.{kind, node_part, parts}
-use Rattle.vd_elaboration.specs.Elaborations.{given_actual, Top, top_instance, top_scope, top_elaborated, Elaboration, of_built, Units, units_of, hierarchy_of, beginning, elaborated_with, elaborated_units}
+use Rattle.vd_meaning.specs.Building.{Built, State}
+use Rattle.vd_meaning.specs.NodeFacets.{View, Hierarchy, Part}
+use Rattle.vd_meaning.specs.Hierarchies.{EntityText, ArchitectureText, entity_in, architecture_in, hierarchy}
+use Rattle.vd_meaning.specs.Parts.{kind, node_part, parts}
+use Rattle.vd_meaning.specs.Elaborations.{given_actual, Top, top_instance, top_scope, top_elaborated, Elaboration, of_built, Units, units_of, hierarchy_of, beginning, elaborated_with, elaborated_units}
 use Rattle.vd_meaning_laws.specs.Agreement.{Link, IsApart}
 use Rattle.vd_meaning_laws.specs.Renumbering.{SameTable, AlikeMeaning, renumbered}
 use Rattle.vd_meaning_laws.proofs.Cases.{kind_alike}
@@ -70,7 +70,7 @@ module _ (l : Link) (numbers : IsApart l) where
     top_states : (c d : EntityText) → AlikeEntity l numbers c d → (a b : ArchitectureText) → AlikeArchitecture l numbers a b → (s t : State) → AlikeState l s t
         → AlikeStates l (top_elaborated views h top c a s) (top_elaborated (map (view_under l) views) k (top_in l top) d b t)
     top_states c d z a b e s t j =
-        subst (λ name. AlikeStates l (top_elaborated views h top c a s) (Rattle.vd_elaboration.specs.Hierarchies.entity_elaborated (map (view_under l) views) k (top_scope top name) (top_scope top name) d b (top_instance (top_in l top)) 0 t)) (sym e.name)
+        subst (λ name. AlikeStates l (top_elaborated views h top c a s) (Rattle.vd_meaning.specs.Hierarchies.entity_elaborated (map (view_under l) views) k (top_scope top name) (top_scope top name) d b (top_instance (top_in l top)) 0 t)) (sym e.name)
         (entity_alike l numbers views h k hs (top_scope top a.name) (top_scope top a.name) c d z a b e (top_instance top) (top_instance (top_in l top)) (top_alike top) 0 0 refl s t j)
 
   module _ (given : KeepsGiven l) (u v : Units) (z : AlikeUnits l u v) (top : Top) where

@@ -6,8 +6,8 @@ use Rattle.vd_trees.specs.declared.paths.Scope.{Scope}
 use Rattle.vd_composites.specs.Composites.{Value}
 use Rattle.vd_environments.specs.Got.{Got}
 use Rattle.vd_environments.specs.Environments.{Env}
-use Rattle.vd_elaboration.specs.Building.{Placed, Made, Built, State}
-use Rattle.vd_elaboration.specs.Facets.{ElementMode, ByMode, ByView, ViewElement, View, Ports, Generics, Actual, Instance, Hierarchy, Elaborating, PackageText, Unit', EntityUnit, ArchitectureUnit, PackageUnit, Part}
+use Rattle.vd_meaning.specs.Building.{Placed, Made, Built, State}
+use Rattle.vd_meaning.specs.NodeFacets.{ElementMode, ByMode, ByView, ViewElement, View, Ports, Generics, Actual, Instance, Hierarchy, Elaborating, PackageText, Unit', EntityUnit, ArchitectureUnit, PackageUnit, Part}
 use Rattle.vd_meaning_laws.specs.Agreement.{Link, number_in, Agree, Alike, AlikeCommands, AlikeRunning}
 use Rattle.vd_meaning_laws.specs.Renumbering.{AlikeMeaning, AlikeObjects, AlikeFormal, pair_in}
 

@@ -14,10 +14,10 @@ use Rattle.vd_resolved.specs.Trees.{ResolvedTree}
 use Rattle.vd_resolved.specs.Validity.{IsOwn, IsResolved}
 use Rattle.vd_declarations.specs.declared.declarations.Declaration.{Declaration}
 use Rattle.vd_meaning.specs.Tables.{Table, given_count, table}
-use Rattle.vd_elaboration.specs.Building.{Made}
-use Rattle.vd_elaboration.specs.Facets.{Part}
-use Rattle.vd_elaboration.specs.Parts.{node_part, parts}
-use Rattle.vd_elaboration.specs.Elaborations.{Top, Elaboration, Elaborates, Fails, NoTop, Units, beginning, elaborated_units, elaboration, model_of, trace_of, trace_of_top, design_trace_text}
+use Rattle.vd_meaning.specs.Building.{Made}
+use Rattle.vd_meaning.specs.NodeFacets.{Part}
+use Rattle.vd_meaning.specs.Parts.{node_part, parts}
+use Rattle.vd_meaning.specs.Elaborations.{Top, Elaboration, Elaborates, Fails, NoTop, Units, beginning, elaborated_units, elaboration, model_of, trace_of, trace_of_top, design_trace_text}
 use Rattle.vd_meaning_laws.specs.Agreement.{Link, IsApart, Agree}
 use Rattle.vd_meaning_laws.specs.Renumbering.{SameTable, renumbered}
 use Rattle.vd_elaboration_laws.specs.Agreement.{view_under, AlikeUnit, AlikePart, AlikeMade}

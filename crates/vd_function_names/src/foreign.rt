@@ -1,7 +1,7 @@
 //! Names that a function may not use.
 
 ghost use Rattle.std.specs.Prelude.{◌≡◌, ◌&&◌, ◌||◌, not};
-ghost use Rattle.vd_elaboration.specs.Elaborations.{Units};
+ghost use Rattle.vd_meaning.specs.Elaborations.{Units};
 ghost use Rattle.vd_facets.specs.Roles.{read_role};
 ghost use Rattle.vd_function_names.specs.Functions.{among};
 ghost use Rattle.vd_least.specs.Least.{least_of};

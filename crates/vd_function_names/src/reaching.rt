@@ -1,7 +1,7 @@
 //! The declaration that a name names, before an attribute or a call makes something else of it.
 
 ghost use Rattle.std.specs.Prelude.{◌≡◌};
-ghost use Rattle.vd_elaboration.specs.Elaborations.{Units};
+ghost use Rattle.vd_meaning.specs.Elaborations.{Units};
 ghost use Rattle.vd_facets.specs.Roles.{read_role};
 ghost use Rattle.vd_function_names.specs.Steps.{step_of as step_by};
 ghost use Rattle.vd_meaning.specs.Tables.{role_of as role_in, table};

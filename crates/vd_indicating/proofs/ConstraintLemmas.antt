@@ -7,7 +7,7 @@ use Rattle.vd_composites.specs.declared.ranges.Bounds.{Bounds}
 use Rattle.vd_composites.specs.declared.scalars.ScalarSubtype.{ScalarSubtype}
 use Rattle.vd_environments.specs.Environments.{Indicated, Static, both}
 use Rattle.vd_environments.specs.Got.{got}
-use Rattle.vd_indicated.specs.Indicated.{array_indicated}
+use Rattle.vd_indicating.specs.Indicated.{array_indicated}
 use Rattle.vd_indicating.specs.Made.{narrowed_by, scalar_indicated, within_range}
 use Rattle.vd_value_rules.specs.Knowledge.{later, later_bounds, or_later}
 use Rattle.vd_values.specs.declared.scalar.StopKind.{StopKind}

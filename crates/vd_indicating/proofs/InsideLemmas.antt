@@ -7,10 +7,10 @@ use Rattle.vd_composites.specs.declared.scalars.ScalarSubtype.{ScalarSubtype}
 use Rattle.vd_environments.specs.Environments.{Field, Indicated, OfFields, all_made_inside, and_make, made_inside}
 use Rattle.vd_forest.specs.Forest.{Forest, more}
 use Rattle.vd_forest.specs.Store.{Extends, Holds, at}
-use Rattle.vd_indicated.specs.Indicated.{all_but_first, array_indicated, fields_in, first_indicated, made_of, static_of, texts_in}
-use Rattle.vd_indicated.specs.declared.forms.IndicatedForm.{IndicatedForm}
-use Rattle.vd_indicated.specs.declared.forms.IndicatedForm.TheVariants as form
-use Rattle.vd_indicated.specs.declared.statics.StaticSort.{StaticSort}
+use Rattle.vd_indicating.specs.Indicated.{all_but_first, array_indicated, fields_in, first_indicated, made_of, static_of, texts_in}
+use Rattle.vd_indicating.specs.declared.forms.IndicatedForm.{IndicatedForm}
+use Rattle.vd_indicating.specs.declared.forms.IndicatedForm.TheVariants as form
+use Rattle.vd_indicating.specs.declared.statics.StaticSort.{StaticSort}
 use Rattle.vd_indicating.specs.Inside.{AreInside, IsInside, field_inside, form_inside, inside_of, sort_inside}
 use Rattle.vd_meaning.specs.Declarations.{makes_of, subtypes_of}
 

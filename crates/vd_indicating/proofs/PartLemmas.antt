@@ -2,8 +2,8 @@
 use Rattle.std.proofs.Common.{◌≡◌, ap, refl, reverse, ◌∙◌}
 use mathlib.Core.List.{reverse_aux}
 use Rattle.vd_forest.specs.Forest.{Forest, more, nothing, turned}
-use Rattle.vd_indicated.specs.Indicated.{fields_in, texts_in}
-use Rattle.vd_indicated.specs.declared.forms.IndicatedForm.{IndicatedForm}
+use Rattle.vd_indicating.specs.Indicated.{fields_in, texts_in}
+use Rattle.vd_indicating.specs.declared.forms.IndicatedForm.{IndicatedForm}
 
 texts_turned_onto : (f g : Forest IndicatedForm) → texts_in (turned f g) ≡ reverse_aux (texts_in f) (texts_in g)
 texts_turned_onto nothing g = refl

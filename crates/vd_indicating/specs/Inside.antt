@@ -3,10 +3,10 @@ use Rattle.std.specs.Prelude.{◌≡◌, ◌+◌, ◌<◌, ◌≤◌, List, fals
 use Rattle.vd_environments.specs.Environments.{Field, Indicated, made_inside}
 use Rattle.vd_forest.specs.Forest.{Forest}
 use Rattle.vd_forest.specs.Store.{at}
-use Rattle.vd_indicated.specs.Indicated.{fields_in, texts_in}
-use Rattle.vd_indicated.specs.declared.forms.IndicatedForm.{IndicatedForm}
-use Rattle.vd_indicated.specs.declared.forms.IndicatedForm.TheVariants as form
-use Rattle.vd_indicated.specs.declared.statics.StaticSort.{StaticSort}
+use Rattle.vd_indicating.specs.Indicated.{fields_in, texts_in}
+use Rattle.vd_indicating.specs.declared.forms.IndicatedForm.{IndicatedForm}
+use Rattle.vd_indicating.specs.declared.forms.IndicatedForm.TheVariants as form
+use Rattle.vd_indicating.specs.declared.statics.StaticSort.{StaticSort}
 
 abbrev pub inside_of : Indicated → Indicated
 inside_of i = record { subtype = i.subtype; make = made_inside i.make }

@@ -9,8 +9,8 @@ use Rattle.vd_environments.specs.Environments.{Field, Indicated, OfScalar, Stati
 use Rattle.vd_environments.specs.Got.{Got, got, senseless}
 use Rattle.vd_forest.specs.Forest.{Forest}
 use Rattle.vd_forest.specs.Store.{at}
-use Rattle.vd_indicated.specs.Indicated.{fields_in, indicated_in}
-use Rattle.vd_indicated.specs.declared.forms.IndicatedForm.{IndicatedForm}
+use Rattle.vd_indicating.specs.Indicated.{fields_in, indicated_in}
+use Rattle.vd_indicating.specs.declared.forms.IndicatedForm.{IndicatedForm}
 use Rattle.vd_meaning.specs.Declarations.{constrained_array, unconstrained_array}
 use Rattle.vd_meaning.specs.Names.{scalars_of, sliced_subtype}
 use Rattle.vd_value_rules.specs.Knowledge.{array_or_later, is_resolved, or_later, widened}

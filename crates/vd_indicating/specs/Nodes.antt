@@ -1,6 +1,6 @@
 -- Nodes of subtypes.
-use Rattle.vd_indicated.specs.declared.forms.IndicatedForm.{IndicatedForm}
-use Rattle.vd_indicated.specs.declared.forms.IndicatedForm.TheVariants as form
+use Rattle.vd_indicating.specs.declared.forms.IndicatedForm.{IndicatedForm}
+use Rattle.vd_indicating.specs.declared.forms.IndicatedForm.TheVariants as form
 
 -- a literal is no subtype
 abbrev pub IsOfSubtype : IndicatedForm → Type 0

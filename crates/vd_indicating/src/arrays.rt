@@ -3,16 +3,16 @@
 ghost use Rattle.std.specs.Prelude.{◌≡◌, ◌≤◌, IfOk, List, length, ℕ};
 ghost use Rattle.vd_environments.specs.Environments.{Field};
 ghost use Rattle.vd_forest.specs.Store.{Extends, at};
-ghost use Rattle.vd_indicated.specs.Indicated.{all_but_first, array_indicated, first_indicated, indicated_in, made_of, static_of, texts_in};
+ghost use Rattle.vd_indicating.specs.Indicated.{all_but_first, array_indicated, first_indicated, indicated_in, made_of, static_of, texts_in};
 ghost use Rattle.vd_indicating.specs.Made.{Indicates, indexed_by, later_array as array_known_later, ranging};
 ghost use Rattle.vd_value_rules.specs.Knowledge.{array_or_later};
 
 use crate::nodes::{add_node, later_bounds, read_node};
 use crate::parts::field;
+use crate::{IndicatedForm, StaticSort};
 use std::alloc::AllocError;
 use vd_composites::{Bounds, ScalarSubtype, ScalarType};
 use vd_forest::Store;
-use vd_indicated::{IndicatedForm, StaticSort};
 
 /// The node of an array.
 pub(crate) fn array_form(

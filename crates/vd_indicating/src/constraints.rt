@@ -4,18 +4,18 @@ ghost use Rattle.std.specs.Prelude.{◌≡◌, ◌≤◌, IfOk, List, OnErr, len
 ghost use Rattle.vd_composites.specs.Scalars.{whole_range as all_values};
 ghost use Rattle.vd_environments.specs.Environments.{Field};
 ghost use Rattle.vd_forest.specs.Store.{Extends, at};
-ghost use Rattle.vd_indicated.specs.Indicated.{all_but_first, array_indicated, first_indicated, indicated_in, made_of, static_of};
+ghost use Rattle.vd_indicating.specs.Indicated.{all_but_first, array_indicated, first_indicated, indicated_in, made_of, static_of};
 ghost use Rattle.vd_indicating.specs.Made.{Indicates, narrowed_by, narrowed_for, scalar_indicated, within_range};
 ghost use Rattle.vd_indicating.specs.Nodes.{IsOfSubtype};
 ghost use Rattle.vd_value_rules.specs.Knowledge.{widened as with_all_values};
 
 use crate::arrays::array_form;
 use crate::nodes::{add_node, later_bounds, read_node};
+use crate::subtypes::is_resolved;
+use crate::{IndicatedForm, StaticSort};
 use std::alloc::AllocError;
 use vd_composites::{Bounds, ScalarSubtype, ScalarType};
 use vd_forest::Store;
-use vd_indicated::subtypes::is_resolved;
-use vd_indicated::{IndicatedForm, StaticSort};
 
 /// A range, where it lies within another.
 fn within(whole: Bounds, range: Option<Bounds>) -> Option<Bounds>

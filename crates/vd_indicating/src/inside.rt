@@ -3,14 +3,14 @@
 ghost use Rattle.std.specs.Prelude.{◌≡◌, ◌≤◌, IfOk, IsTrue, List, length};
 ghost use Rattle.vd_forest.specs.Forest.{Forest};
 ghost use Rattle.vd_forest.specs.Store.{Extends, at};
-ghost use Rattle.vd_indicated.specs.Indicated.{indicated_in};
-ghost use Rattle.vd_indicated.specs.declared.forms.IndicatedForm.{IndicatedForm as Form};
+ghost use Rattle.vd_indicating.specs.Indicated.{indicated_in};
+ghost use Rattle.vd_indicating.specs.declared.forms.IndicatedForm.{IndicatedForm as Form};
 ghost use Rattle.vd_indicating.specs.Inside.{AreInside, IsInside, form_inside, inside_of, sort_inside};
 ghost use Rattle.vd_indicating.specs.Made.{Indicates};
 
+use crate::{IndicatedForm, StaticSort};
 use std::alloc::{AllocError, Global};
 use vd_forest::Store;
-use vd_indicated::{IndicatedForm, StaticSort};
 
 /// How static bounds are inside.
 fn inside_sort(known: StaticSort) -> StaticSort

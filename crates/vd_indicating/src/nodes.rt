@@ -3,16 +3,16 @@
 ghost use Rattle.std.specs.Prelude.{◌≡◌, ◌≤◌, IfOk, OnErr, [], length};
 ghost use Rattle.vd_forest.specs.Forest.{more, no_place as nowhere, nothing};
 ghost use Rattle.vd_forest.specs.Store.{Extends, Holds, at};
-ghost use Rattle.vd_indicated.specs.Indicated.{fields_in, indicated_in, made_of, nothing_indicated, texts_in};
+ghost use Rattle.vd_indicating.specs.Indicated.{fields_in, indicated_in, made_of, nothing_indicated, texts_in};
 ghost use Rattle.vd_indicating.specs.Made.{Indicates};
 ghost use Rattle.vd_value_rules.specs.Knowledge.{later_bounds as null_bounds};
 ghost use Rattle.vd_indicating.specs.Nodes.{IsOfSubtype};
 
+use crate::{IndicatedForm, StaticSort};
 use std::alloc::AllocError;
 use vd_bytes::Place;
 use vd_composites::{Bounds, ScalarSubtype, ScalarType};
 use vd_forest::Store;
-use vd_indicated::{IndicatedForm, StaticSort};
 
 /// A first tree with the number of its parts.
 #[derive(Clone, Copy)]

@@ -2,14 +2,14 @@
 
 ghost use Rattle.std.specs.Prelude.{◌≡◌, ◌≤◌, ◌&&◌, IfOk, OnErr, length};
 ghost use Rattle.vd_forest.specs.Store.{Extends, at};
-ghost use Rattle.vd_indicated.specs.Indicated.{indicated_in, static_of};
+ghost use Rattle.vd_indicating.specs.Indicated.{indicated_in, static_of};
 ghost use Rattle.vd_indicating.specs.Made.{Indicates, object_of, slice_of};
 
 use crate::nodes::{add_node, read_node};
+use crate::{IndicatedForm, StaticSort};
 use std::alloc::AllocError;
 use vd_composites::Bounds;
 use vd_forest::Store;
-use vd_indicated::{IndicatedForm, StaticSort};
 
 /// How static the bounds of a slice are: in elaboration they are known only where those of the whole are.
 fn sliced(known: StaticSort, whole: StaticSort) -> StaticSort

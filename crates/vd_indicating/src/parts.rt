@@ -2,13 +2,13 @@
 
 ghost use Rattle.std.specs.Prelude.{◌≡◌, ◌∷◌, ◌≤◌, IfOk, OnErr, length, reverse};
 ghost use Rattle.vd_forest.specs.Store.{Extends, at};
-ghost use Rattle.vd_indicated.specs.Indicated.{fields_in, indicated_in, texts_in};
+ghost use Rattle.vd_indicating.specs.Indicated.{fields_in, indicated_in, texts_in};
 ghost use Rattle.vd_indicating.specs.Made.{HasFields};
 
+use crate::IndicatedForm;
 use crate::nodes::{no_place, read_node};
 use std::alloc::AllocError;
 use vd_forest::Store;
-use vd_indicated::IndicatedForm;
 
 /// A literal in front of others.
 pub fn literal(store: &mut Store<IndicatedForm>, text: &[u8], next: u32) -> Result<u32, AllocError>

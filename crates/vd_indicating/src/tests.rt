@@ -3,18 +3,18 @@
 ghost use Rattle.std.specs.Prelude.{◌≤◌, IfOk, length};
 ghost use Rattle.vd_forest.specs.Store.{Extends};
 
+use crate::array_facts::{array_bounds, static_length};
 use crate::arrays::array_of_any_bounds;
 use crate::constraints::narrowed;
 use crate::inside::InsideTable;
+use crate::part_facts::{element, field as field_of, index_literals, literals};
 use crate::parts::{field, literal};
 use crate::types::{enumeration, record_type};
+use crate::{IndicatedForm, StaticSort, all_bounds};
 use std::alloc::AllocError;
 use std::test::Fail;
 use vd_composites::Bounds;
 use vd_forest::Store;
-use vd_indicated::arrays::{array_bounds, static_length};
-use vd_indicated::parts::{element, field as field_of, index_literals, literals};
-use vd_indicated::{IndicatedForm, StaticSort, all_bounds};
 
 /// The type (red, green, blue).
 #[tactic(auto, using(vd_forest::proofs::StoreLemmas::growing))]

@@ -3,15 +3,15 @@
 ghost use Rattle.std.specs.Prelude.{◌≡◌, ◌≤◌, IfOk, OnErr, length};
 ghost use Rattle.vd_composites.specs.declared.scalars.ScalarType.TheVariants.{Enumeration};
 ghost use Rattle.vd_forest.specs.Store.{Extends, at};
-ghost use Rattle.vd_indicated.specs.Indicated.{fields_in, static_of, texts_in};
+ghost use Rattle.vd_indicating.specs.Indicated.{fields_in, static_of, texts_in};
 ghost use Rattle.vd_indicating.specs.Made.{Indicates, scalar_indicated};
 ghost use Rattle.vd_meaning.specs.Declarations.{enumeration as enumeration_of, record_type as type_of_records, whole};
 
 use crate::nodes::add_node;
+use crate::{IndicatedForm, StaticSort};
 use std::alloc::AllocError;
 use vd_composites::{Bounds, ScalarSubtype, ScalarType};
 use vd_forest::{Cursor, Store};
-use vd_indicated::{IndicatedForm, StaticSort};
 
 /// A scalar subtype, with the literals of its type.
 pub fn scalar_subtype(

@@ -1,7 +1,7 @@
 -- Conversions of signals as actuals.
 use Rattle.std.proofs.Common.{◌&&◌, ◌==◌, ◌≡◌, ◌∙◌, ◌∷◌, Bool, Bor, List, [], ap, false, if◌then◌else◌, length, not, refl, suc, sym, true, ℕ}
 use Rattle.vd_bytes.specs.declared.places.Place.{Place}
-use Rattle.vd_elaboration.specs.Building.{Mode}
+use Rattle.vd_meaning.specs.Building.{Mode}
 use Rattle.vd_instance_rules.specs.Instances.{converted_output}
 use Rattle.vd_meaning.specs.Tables.{is_vector}
 use Rattle.vd_port_modes.specs.Readings.{read_fields, read_reached}

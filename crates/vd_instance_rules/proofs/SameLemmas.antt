@@ -2,8 +2,8 @@
 use Rattle.std.proofs.Common.{◌++◌, ◌≡◌, ◌∙◌, ◌∷◌, ◌&&◌, ◌||◌, List, [], ap, ap₂, false, not, refl, sym, true, ℕ, if◌then◌else◌}
 use Rattle.std.specs.List.{list_all, list_any}
 use Rattle.std.specs.Prelude.{None, Option, Some, is_some}
-use Rattle.vd_elaboration.specs.Building.{BothWays, Input, Mode, Output}
-use Rattle.vd_elaboration.specs.Facets.{ByMode, ByView, ElementMode}
+use Rattle.vd_meaning.specs.Building.{BothWays, Input, Mode, Output}
+use Rattle.vd_meaning.specs.NodeFacets.{ByMode, ByView, ElementMode}
 use Rattle.vd_environments.specs.Environments.{Env, is_static}
 use Rattle.vd_forest.specs.Forest.{Forest, more, nothing}
 use Rattle.vd_instance_rules.proofs.SeenLemmas.{associated_behind}

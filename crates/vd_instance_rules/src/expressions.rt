@@ -2,7 +2,7 @@
 
 ghost use Rattle.std.specs.Prelude.{◌≡◌, ◌&&◌, ◌∷◌, IfOk, List, OnOk, not, ℕ};
 ghost use Rattle.vd_environments.specs.Environments.{is_static as is_known_static};
-ghost use Rattle.vd_indicated.specs.Indicated.{static_of};
+ghost use Rattle.vd_indicating.specs.Indicated.{static_of};
 ghost use Rattle.vd_instance_rules.specs.Instances.{IsInstance, design_at, port_map_at, read_association};
 ghost use Rattle.vd_known_designs.specs.Designs.{IsReady, Knows};
 ghost use Rattle.vd_port_associations.specs.Numbers.{Holds};
@@ -17,7 +17,7 @@ use crate::instance::Instance;
 use std::alloc::{AllocError, Global};
 use vd_declarations::DeclId;
 use vd_forest::Cursor;
-use vd_indicated::subtypes::scalar;
+use vd_indicating::subtypes::scalar;
 use vd_known_designs::KnownDesign;
 use vd_known_indications::node;
 use vd_port_associations::associations::PortAssociation;

@@ -2,7 +2,7 @@
 
 ghost use Rattle.std.specs.Prelude.{◌≡◌, ◌&&◌, ◌∷◌, IfOk, List, OnOk};
 ghost use Rattle.vd_instance_rules.specs.Instances.{IsInstance, converted_output, design_at, port_map_at, read_association};
-ghost use Rattle.vd_elaboration.specs.Facets.{ByMode};
+ghost use Rattle.vd_meaning.specs.NodeFacets.{ByMode};
 ghost use Rattle.vd_known_designs.specs.Designs.{IsReady, Knows};
 ghost use Rattle.vd_meaning.specs.Tables.{is_vector as is_vector_type};
 ghost use Rattle.vd_port_associations.specs.Associations.{read_actual};

@@ -2,9 +2,9 @@
 use Rattle.std.proofs.Common.{Bool, ◌≡◌, ◌∙◌, List, None, Option, Some, ap, false, if◌then◌else◌, refl, subst, sym, true, ℕ}
 use Rattle.vd_environments.specs.Environments.{Env, Static}
 use Rattle.vd_forest.specs.Forest.{Forest}
-use Rattle.vd_indicated.specs.Indicated.{static_of}
-use Rattle.vd_indicated.specs.declared.forms.IndicatedForm.{IndicatedForm}
-use Rattle.vd_indicated.specs.declared.statics.StaticSort.{StaticSort}
+use Rattle.vd_indicating.specs.Indicated.{static_of}
+use Rattle.vd_indicating.specs.declared.forms.IndicatedForm.{IndicatedForm}
+use Rattle.vd_indicating.specs.declared.statics.StaticSort.{StaticSort}
 use Rattle.vd_indicating.specs.Made.{Indicates}
 use Rattle.vd_known_actuals.specs.Actuals.{IsCalled, result_mark, results_of}
 use Rattle.vd_known_designs.specs.Designs.{AreIndicated}

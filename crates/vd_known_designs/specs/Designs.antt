@@ -1,7 +1,7 @@
 -- What is known of a design at a place, in memory.
 use Rattle.std.specs.Prelude.{◌≡◌, ◌∷◌, List}
 use Rattle.vd_forest.specs.Forest.{Forest}
-use Rattle.vd_indicated.specs.declared.forms.IndicatedForm.{IndicatedForm}
+use Rattle.vd_indicating.specs.declared.forms.IndicatedForm.{IndicatedForm}
 use Rattle.vd_indicated_fields.specs.Jumps.{AreJumps}
 use Rattle.vd_indicating.specs.Made.{Indicates}
 use Rattle.vd_known_designs.specs.declared.design.KnownDesign.{KnownDesign}

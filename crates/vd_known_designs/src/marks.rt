@@ -16,7 +16,7 @@ use crate::marks::Sort::*;
 use std::alloc::{AllocError, Global};
 use vd_composites::{Bounds, ScalarSubtype, ScalarType};
 use vd_given::numbers::*;
-use vd_indicated::StaticSort;
+use vd_indicating::StaticSort;
 use vd_known_tables::KnownTable;
 use vd_subtype_tables::SubtypeTables;
 

@@ -7,11 +7,11 @@ use Rattle.vd_environments.specs.Environments.{Argument, Env, Indicated, Static,
 use Rattle.vd_environments.specs.Got.{Got}
 use Rattle.vd_facets.proofs.PassingLemmas.{nth_skipped}
 use Rattle.vd_bytes.specs.declared.places.Place.{Place}
-use Rattle.vd_elaboration.specs.Facets.{View}
-use Rattle.vd_elaboration.specs.Instances.{view_in}
+use Rattle.vd_meaning.specs.NodeFacets.{View}
+use Rattle.vd_meaning.specs.Instances.{view_in}
 use Rattle.vd_forest.specs.Forest.{Forest, more, nothing, skipped}
-use Rattle.vd_indicated.specs.Indicated.{static_of}
-use Rattle.vd_indicated.specs.declared.forms.IndicatedForm.{IndicatedForm}
+use Rattle.vd_indicating.specs.Indicated.{static_of}
+use Rattle.vd_indicating.specs.declared.forms.IndicatedForm.{IndicatedForm}
 use Rattle.vd_indicated_fields.specs.Jumps.{AreJumps}
 use Rattle.vd_known_designs.specs.Designs.{IsReady, Knows}
 use Rattle.vd_known_designs.specs.declared.design.KnownDesign.{KnownDesign}

@@ -12,7 +12,7 @@ use vd_composites::Value;
 use vd_declarations::DeclId;
 use vd_facets::{declaration_of, number_made};
 use vd_forest::Cursor;
-use vd_indicated::StaticSort;
+use vd_indicating::StaticSort;
 use vd_known_designs::KnownDesign;
 use vd_resolved::Resolved;
 use vd_static_entries::Entry;

@@ -11,7 +11,7 @@ ghost use Rattle.vd_value_rules.specs.Knowledge.{Known};
 use std::alloc::{AllocError, Global};
 use vd_composites::Value;
 use vd_declarations::DeclId;
-use vd_indicated::StaticSort;
+use vd_indicating::StaticSort;
 use vd_known_designs::KnownDesign;
 use vd_static_entries::Entry;
 use vd_values::Scalar;

@@ -22,7 +22,7 @@ use vd_declarations::DeclId;
 use vd_facets::{declaration_of, elements_of, number_made};
 use vd_forest::Cursor;
 use vd_function_names::numbers::numbers_of_first;
-use vd_indicated::StaticSort;
+use vd_indicating::StaticSort;
 use vd_known_actuals::{ActualFunction, actuals_known};
 use vd_known_designs::{KnownDesign, TwoSubtypes};
 use vd_known_indications::indicated_twice;

@@ -4,8 +4,8 @@ use Rattle.std.specs.Prelude.{Err, IfOk, None, Ok, Option, Result, Some}
 use Rattle.vd_environments.specs.Environments.{Env, Indicated}
 use Rattle.vd_forest.specs.Forest.{Forest}
 use Rattle.vd_forest.specs.Store.{at}
-use Rattle.vd_indicated.specs.Indicated.{indicated_in, static_of}
-use Rattle.vd_indicated.specs.declared.forms.IndicatedForm.{IndicatedForm}
+use Rattle.vd_indicating.specs.Indicated.{indicated_in, static_of}
+use Rattle.vd_indicating.specs.declared.forms.IndicatedForm.{IndicatedForm}
 use Rattle.vd_indicating.proofs.FoundLemmas.{constrained_by_found}
 use Rattle.vd_indicating.specs.Found.{found}
 use Rattle.vd_indicating.specs.Made.{Indicates, narrowed_for}

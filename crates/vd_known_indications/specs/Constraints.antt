@@ -1,7 +1,7 @@
 -- Constraints of subtype indications, as they are known when the text is analysed.
 use Rattle.std.specs.Prelude.{◌≡◌, None, Option, Some, false, true}
 use Rattle.vd_environments.specs.Environments.{Env}
-use Rattle.vd_indicated.specs.Indicated.{static_of}
+use Rattle.vd_indicating.specs.Indicated.{static_of}
 use Rattle.vd_indicating.specs.Found.{found}
 use Rattle.vd_known_indications.specs.declared.indications.Constraint.{Constraint}
 use Rattle.vd_meaning.specs.Facets.{Meaning}

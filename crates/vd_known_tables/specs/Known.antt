@@ -4,8 +4,8 @@ use Rattle.vd_composites.specs.Subtypes.{Subtype}
 use Rattle.vd_environments.specs.Environments.{Env, nothing_denoted}
 use Rattle.vd_forest.specs.Forest.{Forest}
 use Rattle.vd_forest.specs.Store.{at}
-use Rattle.vd_indicated.specs.Indicated.{indicated_in}
-use Rattle.vd_indicated.specs.declared.forms.IndicatedForm.{IndicatedForm}
+use Rattle.vd_indicating.specs.Indicated.{indicated_in}
+use Rattle.vd_indicating.specs.declared.forms.IndicatedForm.{IndicatedForm}
 use Rattle.vd_indicating.specs.Made.{Indicates}
 use Rattle.vd_known_tables.specs.Contents.{AreRestorable, Content, content_of, lengths_of, undone}
 use Rattle.vd_known_tables.specs.declared.contents.Contents.{Contents}

@@ -3,7 +3,7 @@ use Rattle.std.specs.Prelude.{None, Option, Some}
 use Rattle.vd_composites.specs.Ranges.{from_left}
 use Rattle.vd_composites.specs.Subtypes.{Arrays, Subtype}
 use Rattle.vd_composites.specs.declared.ranges.Bounds.{Bounds}
-use Rattle.vd_elaboration.specs.Layouts.{range_or_none}
+use Rattle.vd_meaning.specs.Layouts.{range_or_none}
 
 abbrev pub default_shape : Subtype → Option Bounds
 default_shape (Arrays index (Some b) element) = Some b

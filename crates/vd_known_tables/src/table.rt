@@ -3,7 +3,7 @@
 ghost use Rattle.std.specs.Prelude.{◌≡◌, ◌≤◌, ◌∷◌, [], List, MatchOption, OnOk, length, true};
 ghost use Rattle.vd_environments.specs.Environments.{Denotation, Indicated};
 ghost use Rattle.vd_forest.specs.Store.{at};
-ghost use Rattle.vd_indicated.specs.Indicated.{indicated_in};
+ghost use Rattle.vd_indicating.specs.Indicated.{indicated_in};
 ghost use Rattle.vd_indicating.specs.Made.{Indicates};
 ghost use Rattle.vd_known_tables.specs.Contents.{or_nothing};
 ghost use Rattle.vd_known_tables.specs.Known.{AreKnown, CanGoBack, GoesBack, none_known, with_result};

@@ -7,8 +7,8 @@ ghost use Rattle.vd_environments.specs.Environments.{Env, Indicated, Static, lit
 ghost use Rattle.vd_environments.specs.Got.{Got};
 ghost use Rattle.vd_forest.specs.Forest.{Forest};
 ghost use Rattle.vd_forest.specs.Store.{at};
-ghost use Rattle.vd_indicated.specs.Indicated.{indicated_in, texts_in};
-ghost use Rattle.vd_indicated.specs.declared.forms.IndicatedForm.{IndicatedForm as Form};
+ghost use Rattle.vd_indicating.specs.Indicated.{indicated_in, texts_in};
+ghost use Rattle.vd_indicating.specs.declared.forms.IndicatedForm.{IndicatedForm as Form};
 ghost use Rattle.vd_indicating.specs.Found.{found};
 ghost use Rattle.vd_indicating.specs.Made.{later_array};
 ghost use Rattle.vd_known_designs.specs.Designs.{IsReady, Knows};
@@ -26,8 +26,8 @@ ghost use Rattle.vd_value_rules.specs.Knowledge.{Known, any_bounds, array_define
 
 use vd_composites::{Bounds, ScalarSubtype};
 use vd_forest::{Cursor, Store};
-use vd_indicated::subtypes::scalar;
-use vd_indicated::{IndicatedForm, StaticSort};
+use vd_indicating::subtypes::scalar;
+use vd_indicating::{IndicatedForm, StaticSort};
 use vd_known_designs::KnownDesign;
 use vd_known_indications::indications::early_range;
 use vd_static_entries::{KnownName, Node, Sense};

@@ -15,8 +15,8 @@ use Rattle.vd_given.specs.Given.{given_scopes}
 use Rattle.vd_given.specs.Entries.{declared}
 use Rattle.vd_given.specs.Lines.{quoted}
 use Rattle.vd_given.specs.declared.numbers.TheConstants.{BIT, BOOLEAN, STD_ULOGIC}
-use Rattle.vd_elaboration.specs.Building.{ScalarObject}
-use Rattle.vd_elaboration.specs.Elaborations.{Elaboration, elaboration}
+use Rattle.vd_meaning.specs.Building.{ScalarObject}
+use Rattle.vd_meaning.specs.Elaborations.{Elaboration, elaboration}
 use Rattle.vd_meaning_facts.specs.Trees.{node, plain, absent, letter, name, number_from}
 use Rattle.vd_elaboration_facts.specs.Designs.{Tree, word, architecture, tied, lines, text_of}
 use Rattle.vd_elaboration_facts.specs.Hierarchies.{names, closing, unit, entity}

@@ -3,7 +3,7 @@ use Rattle.std.specs.Prelude.{◌≡◌, ℕ, ◌+◌, Bool, true, false, List, 
 use Rattle.vd_values.specs.declared.scalar.Scalar.{Scalar}
 use Rattle.vd_values.specs.declared.scalar.Scalar.TheVariants.{Integer}
 use Rattle.vd_composites.specs.Composites.{Value, One}
-use Rattle.vd_elaboration.specs.Building.{Built, State}
+use Rattle.vd_meaning.specs.Building.{Built, State}
 use Rattle.vd_trees.specs.declared.revision.Revision.TheVariants.{V2019}
 use Rattle.vd_trees.specs.declared.rows.Row.{Row}
 use Rattle.vd_trees.specs.declared.rows.RowKind.TheVariants as kinds

@@ -12,8 +12,8 @@ use Rattle.vd_resolved.specs.Trees.{ResolvedTree, side_by_side}
 use Rattle.vd_given.specs.Given.{given_scopes}
 use Rattle.vd_given.specs.Entries.{declared}
 use Rattle.vd_given.specs.declared.numbers.TheConstants.{STD_ULOGIC}
-use Rattle.vd_elaboration.specs.Building.{ScalarObject}
-use Rattle.vd_elaboration.specs.Elaborations.{Elaboration, Elaborates, Fails, NoTop, elaboration}
+use Rattle.vd_meaning.specs.Building.{ScalarObject}
+use Rattle.vd_meaning.specs.Elaborations.{Elaboration, Elaborates, Fails, NoTop, elaboration}
 use Rattle.vd_meaning_facts.specs.Trees.{node, plain, absent, first, name, longer}
 use Rattle.vd_elaboration_facts.specs.Designs.{Tree, word, declared_word, architecture}
 use Rattle.vd_elaboration_facts.specs.Hierarchies.{names, closing, unit, entity}

@@ -1,8 +1,8 @@
 -- One map behind another, for elaborations.
 use Rattle.std.proofs.Common.{refl, ◌∙◌}
 use Rattle.vd_trees.specs.declared.paths.Scope.{Scope}
-use Rattle.vd_elaboration.specs.Building.{Failing, Stopped, Limited}
-use Rattle.vd_elaboration.specs.Elaborations.{Elaborates, Fails, NoTop}
+use Rattle.vd_meaning.specs.Building.{Failing, Stopped, Limited}
+use Rattle.vd_meaning.specs.Elaborations.{Elaborates, Fails, NoTop}
 use Rattle.vd_maps.specs.Joins.{Joining}
 use Rattle.vd_maps.specs.SameRuns.{ScopesJoin, EndAlike}
 use Rattle.vd_map_laws.specs.Laws.{ElaborationsCompose, ElaborationsJoinAll}

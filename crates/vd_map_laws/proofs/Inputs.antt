@@ -6,8 +6,8 @@ use Rattle.vd_kernel.specs.Models.{Signal, no_signal, signal_at, Model, Stimulus
 use Rattle.vd_kernel.specs.Cycles.{State, ProcessStop, Moment, next_time, initialised, cycle, state_after}
 use Rattle.vd_kernel.specs.Traces.{Trace, End, Done, Quiet, Halted, TwoSources, with_two, has_two, unless_stopped, at_next, moment_on, trace_from, unless_two, trace}
 use Rattle.vd_kernel.specs.Stimuli.{IsInput}
-use Rattle.vd_elaboration.specs.Building.{ScalarObject, Made}
-use Rattle.vd_elaboration.specs.Elaborations.{is_input, inputs_from, signals_from, shape_of}
+use Rattle.vd_meaning.specs.Building.{ScalarObject, Made}
+use Rattle.vd_meaning.specs.Elaborations.{is_input, inputs_from, signals_from, shape_of}
 
 -- ---- inputs
 

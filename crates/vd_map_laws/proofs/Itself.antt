@@ -9,8 +9,8 @@ use Rattle.vd_kernel.proofs.ListPairs.{AllZip-itself, AllZip-implies}
 use Rattle.vd_kernel.proofs.OwnRuns.{corresponds_with_itself}
 use Rattle.vd_kernel.proofs.SameRuns.{same_run}
 use Rattle.vd_kernel.proofs.AtInputs.{same_run_at_inputs}
-use Rattle.vd_elaboration.specs.Building.{ScalarObject, Placed, Made}
-use Rattle.vd_elaboration.specs.Elaborations.{shape_of, model_of, signal_scope}
+use Rattle.vd_meaning.specs.Building.{ScalarObject, Placed, Made}
+use Rattle.vd_meaning.specs.Elaborations.{shape_of, model_of, signal_scope}
 use Rattle.vd_maps.specs.Joins.{Joining, pass_with}
 use Rattle.vd_maps.specs.SameRuns.{Joined, Joins, ScopesJoin}
 use Rattle.vd_map_laws.specs.Laws.{JoinsItself, SameDesignHasSameRun, DistinctPathsJoinThemselves, AreSameByNumber, SameNumbersHaveSameRun}

@@ -12,13 +12,13 @@ use Rattle.vd_resolved.specs.declared.node.Resolved.{Resolved}
 use Rattle.vd_meaning.specs.Tables.{Table, table}
 use Rattle.vd_meaning.specs.Facets.{Meaning}
 use Rattle.vd_meaning.specs.Meanings.{node_meaning}
-use Rattle.vd_elaboration.specs.Building.{Built, State}
-use Rattle.vd_elaboration.specs.Facets.{Part, Unit', nth, gathered}
-use Rattle.vd_elaboration.specs.Facets as units
-use Rattle.vd_elaboration.specs.Parts.{Kind, kind, part_of, node_part, parts}
-use Rattle.vd_elaboration.specs.Parts as kinds
-use Rattle.vd_elaboration.specs.Hierarchies.{EntityText, ArchitectureText, entity_in, architecture_in, is_wanted}
-use Rattle.vd_elaboration.specs.Elaborations.{Top, NoTop, Units, units_of, of_built, elaborated_with}
+use Rattle.vd_meaning.specs.Building.{Built, State}
+use Rattle.vd_meaning.specs.NodeFacets.{Part, Unit', nth, gathered}
+use Rattle.vd_meaning.specs.NodeFacets as units
+use Rattle.vd_meaning.specs.Parts.{Kind, kind, part_of, node_part, parts}
+use Rattle.vd_meaning.specs.Parts as kinds
+use Rattle.vd_meaning.specs.Hierarchies.{EntityText, ArchitectureText, entity_in, architecture_in, is_wanted}
+use Rattle.vd_meaning.specs.Elaborations.{Top, NoTop, Units, units_of, of_built, elaborated_with}
 use Rattle.vd_maps.specs.Units.{Sort, EntityUnit, ArchitectureUnit, PackageUnit, BodyUnit, InstanceUnit, ContextUnit, sort, is_unit, Node, units_in}
 use Rattle.vd_maps.specs.Marks.{is_entity}
 use Rattle.vd_maps.specs.Tops.{NamedTop, top_in, is_architecture_of}

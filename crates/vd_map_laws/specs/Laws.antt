@@ -13,8 +13,8 @@ use Rattle.vd_forest.specs.Forest.{Forest, nothing, more, next_of}
 use Rattle.vd_forms.specs.declared.form.Form.TheVariants as form
 use Rattle.vd_resolved.specs.declared.node.Resolved.{Resolved}
 use Rattle.vd_resolved.specs.Trees.{ResolvedTree}
-use Rattle.vd_elaboration.specs.Building.{ScalarObject, Placed, Made}
-use Rattle.vd_elaboration.specs.Elaborations.{Elaboration, Elaborates, Fails, NoTop, elaboration, shape_of, model_of}
+use Rattle.vd_meaning.specs.Building.{ScalarObject, Placed, Made}
+use Rattle.vd_meaning.specs.Elaborations.{Elaboration, Elaborates, Fails, NoTop, elaboration, shape_of, model_of}
 use Rattle.vd_first_names.specs.Joins as rows
 use Rattle.vd_maps.specs.Joins.{Joining, map_of, pass_with, joins, scopes_join}
 use Rattle.vd_maps.specs.SameRuns.{Joins, ScopesJoin, IsSameRun, HaveSameRunIf}

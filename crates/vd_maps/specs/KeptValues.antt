@@ -9,8 +9,8 @@ use Rattle.vd_composites.specs.Composites.{Value}
 use Rattle.vd_resolved.specs.Trees.{ResolvedTree}
 use Rattle.vd_environments.specs.Got.{Got}
 use Rattle.vd_environments.specs.Environments.{Argument, Denotation, Env}
-use Rattle.vd_elaboration.specs.Building.{Built, State}
-use Rattle.vd_elaboration.specs.Elaborations.{units_of, hierarchy_of, beginning, with_packages}
+use Rattle.vd_meaning.specs.Building.{Built, State}
+use Rattle.vd_meaning.specs.Elaborations.{units_of, hierarchy_of, beginning, with_packages}
 use Rattle.vd_maps.specs.Joins.{map_of}
 use Rattle.vd_maps.specs.SameRuns.{EndAlike}
 use Rattle.vd_maps.specs.Interfaces.{Kind, Type', Subtype', Constant', Function', Item, UnitInterface, OfEntity, OfArchitecture, OfPackage, interface_of, keeps_item}

@@ -13,7 +13,7 @@ use Rattle.vd_trees.specs.Paths.{dotted}
 use Rattle.vd_forest.specs.Forest.{Forest, nothing, more, text_of, parts_of, next_of, skipped}
 use Rattle.vd_resolved.specs.declared.node.Resolved.{Resolved}
 use Rattle.vd_resolved.specs.Trees.{ResolvedTree}
-use Rattle.vd_elaboration.specs.Instances.{implicit_name}
+use Rattle.vd_meaning.specs.Instances.{implicit_name}
 use Rattle.vd_first_names.specs.Joins.{architecture_unit}
 use Rattle.vd_maps.specs.Units.{Sort, EntityUnit, ArchitectureUnit, PackageUnit, BodyUnit, InstanceUnit, ViewPort, SignalObjects, TypeText, SubtypeText, LabelledStatement, InstanceStatement, GenerateRegion, ViewModeText, GenericTypeText, FunctionInstance, sort, Node, units_in, nodes, all_nodes, is_present, Mark, no_mark, named, Object, objects_named, is_named}
 use Rattle.vd_maps.specs.Marks.{name_of, texts_of, is_view_text, elements_of, port_mark, entity_ports, original}

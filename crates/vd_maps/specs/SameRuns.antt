@@ -8,8 +8,8 @@ use Rattle.vd_trees.specs.declared.traces.Stop.{Stop}
 use Rattle.vd_kernel.specs.Stimuli.{SameRunAtInputs}
 use Rattle.vd_resolved.specs.Trees.{ResolvedTree}
 use Rattle.vd_environments.specs.Got.{Halt}
-use Rattle.vd_elaboration.specs.Building.{ScalarObject, Placed, Made, Failing, Stopped, Limited}
-use Rattle.vd_elaboration.specs.Elaborations.{Elaboration, Elaborates, Fails, NoTop, elaboration, model_of, signal_scope}
+use Rattle.vd_meaning.specs.Building.{ScalarObject, Placed, Made, Failing, Stopped, Limited}
+use Rattle.vd_meaning.specs.Elaborations.{Elaboration, Elaborates, Fails, NoTop, elaboration, model_of, signal_scope}
 use Rattle.vd_maps.specs.Joins.{Joining, joins, scopes_join}
 use Rattle.vd_maps.specs.Tops.{NamedTop, top_in, HasTop}
 

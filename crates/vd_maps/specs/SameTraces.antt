@@ -5,8 +5,8 @@ use Rattle.std.specs.List.{AllZip}
 use Rattle.vd_trees.specs.Traces.{Outcome, shows, stops, Step, End, done, quiet, halted, not_elaborated, Trace}
 use Rattle.vd_kernel.specs.Models.{Stimulus}
 use Rattle.vd_kernel.specs.Stimuli.{SameAtInputs}
-use Rattle.vd_elaboration.specs.Building.{Made}
-use Rattle.vd_elaboration.specs.Elaborations.{shape_of, trace_of}
+use Rattle.vd_meaning.specs.Building.{Made}
+use Rattle.vd_meaning.specs.Elaborations.{shape_of, trace_of}
 use Rattle.vd_maps.specs.Joins.{Joining}
 use Rattle.vd_maps.specs.SameRuns.{Joins, EqualStops}
 

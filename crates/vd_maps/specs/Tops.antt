@@ -7,8 +7,8 @@ use Rattle.vd_composites.specs.Composites.{Value}
 use Rattle.vd_forest.specs.Forest.{Forest, text_of, parts_of, next_of, skipped}
 use Rattle.vd_resolved.specs.declared.node.Resolved.{Resolved}
 use Rattle.vd_resolved.specs.Trees.{ResolvedTree}
-use Rattle.vd_elaboration.specs.Elaborations.{Top}
-use Rattle.vd_elaboration.specs.Hierarchies.{is_wanted}
+use Rattle.vd_meaning.specs.Elaborations.{Top}
+use Rattle.vd_meaning.specs.Hierarchies.{is_wanted}
 use Rattle.vd_maps.specs.Units.{Sort, ArchitectureUnit, Node, units_in, nodes, mark_in, Object, objects_named, objects_of_name}
 use Rattle.vd_maps.specs.Marks.{is_entity, name_of, entities_in}
 

@@ -8,8 +8,8 @@ use Rattle.vd_trees.specs.declared.rows.Row.{Row}
 use Rattle.vd_trees.specs.declared.rows.RowKind.{RowKind}
 use Rattle.vd_trees.specs.declared.rows.RowKind.TheVariants.{Port, Signal, Implicit, TypeName}
 use Rattle.vd_resolved.specs.Trees.{ResolvedTree}
-use Rattle.vd_elaboration.specs.Building.{Mode, Input, Output, BothWays, ScalarObject, Made}
-use Rattle.vd_elaboration.specs.Elaborations.{Elaboration, Elaborates, Fails, NoTop, elaboration}
+use Rattle.vd_meaning.specs.Building.{Mode, Input, Output, BothWays, ScalarObject, Made}
+use Rattle.vd_meaning.specs.Elaborations.{Elaboration, Elaborates, Fails, NoTop, elaboration}
 use Rattle.vd_maps.specs.Joins.{Joining, map_of, object_names, gives_objects}
 use Rattle.vd_maps.specs.Units.{Mark}
 use Rattle.vd_maps.specs.Marks.{marks_of, taken_by}

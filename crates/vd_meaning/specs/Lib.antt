@@ -10,3 +10,10 @@ pub mod Generics
 pub mod Kinds
 pub mod Meanings
 pub mod Given
+pub mod Layouts
+pub mod Building
+pub mod NodeFacets
+pub mod Instances
+pub mod Hierarchies
+pub mod Parts
+pub mod Elaborations

@@ -9,7 +9,7 @@ use Rattle.vd_trees.specs.declared.revision.Revision.TheVariants.{V1993, V2019}
 use Rattle.std.specs.List.{filter}
 use Rattle.vd_bytes.specs.declared.answers.Refused.{Refused}
 use Rattle.vd_bytes.specs.declared.places.Place.{Place}
-use Rattle.vd_elaboration.specs.Elaborations.{Units, units_of}
+use Rattle.vd_meaning.specs.Elaborations.{Units, units_of}
 use Rattle.vd_forms.specs.declared.form.Form.{Form}
 use Rattle.vd_forest.specs.Forest.{Forest, nothing, more}
 use Rattle.vd_least.specs.Least.{Judge, all_broken, least}

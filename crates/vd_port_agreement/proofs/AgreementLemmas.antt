@@ -3,8 +3,8 @@ use Rattle.std.proofs.Common.{◌≡◌, ◌++◌, ◌∷◌, Bool, List, None, 
 use Rattle.std.proofs.lemmas.List.Elements.{filter-append}
 use Rattle.std.specs.List.{filter}
 use Rattle.vd_bytes.specs.declared.places.Place.{Place}
-use Rattle.vd_elaboration.specs.Building.{BothWays, Input, Mode, Output}
-use Rattle.vd_elaboration.specs.Facets.{ByMode, ByView, ElementMode, ViewElement}
+use Rattle.vd_meaning.specs.Building.{BothWays, Input, Mode, Output}
+use Rattle.vd_meaning.specs.NodeFacets.{ByMode, ByView, ElementMode, ViewElement}
 use Rattle.vd_value_rules.specs.Actuals.{all_disagree, disagree, disagree_by, disagree_inside, each_element_disagrees, flat, refused_for, signal_broken}
 use Rattle.vd_value_rules.specs.Designs.{Design, Oriented, at_element, elements_of_view}
 use Rattle.vd_value_rules.specs.Reaching.{Reached, oriented}
@@ -35,7 +35,7 @@ each_later go d formal actual (x ∷ xs) none =
 by_later : (go : Oriented → Oriented → List ℕ) (d : Design) (formal actual : Oriented) (f a : ElementMode)
     → ((x y : Oriented) → of_names (go x y) ≡ []) → of_names (disagree_by go d formal actual f a) ≡ []
 by_later go d formal actual (ByMode m) (ByMode a) none =
-    modes_later (Rattle.vd_elaboration.specs.Instances.conversed formal.is_swapped m) (Rattle.vd_elaboration.specs.Instances.conversed actual.is_swapped a)
+    modes_later (Rattle.vd_meaning.specs.Instances.conversed formal.is_swapped m) (Rattle.vd_meaning.specs.Instances.conversed actual.is_swapped a)
 by_later go d formal actual (ByView view k) a none = each_later go d formal actual (elements_of_view d view) none
 by_later go d formal actual (ByMode m) (ByView view k) none = each_later go d formal actual (elements_of_view d view) none
 

@@ -8,7 +8,7 @@ use Rattle.vd_bytes.specs.declared.answers.Refused.{Refused}
 use Rattle.vd_bytes.specs.declared.places.Place.{Place}
 use Rattle.vd_least.proofs.LeastLaws.{least_of_append}
 use Rattle.vd_least.proofs.OrderLaws.{lesser_brackets, lesser_right}
-use Rattle.vd_elaboration.specs.Facets.{ViewElement}
+use Rattle.vd_meaning.specs.NodeFacets.{ViewElement}
 use Rattle.vd_least.specs.Least.{is_less, lesser}
 use Rattle.vd_port_agreement.specs.Agreement.{all_rules, first_rule, pair_rules, read_side}
 use Rattle.vd_port_agreement.specs.contracts.pairs.PairPartialEq.TheImpl as pairs

@@ -2,8 +2,8 @@
 use Rattle.std.specs.Prelude.{◌++◌, ◌==◌, ◌∷◌, Bool, List, None, Option, Some, [], if◌then◌else◌, ℕ}
 use Rattle.vd_bytes.specs.declared.answers.Refused.{Refused}
 use Rattle.vd_bytes.specs.declared.places.Place.{Place}
-use Rattle.vd_elaboration.specs.Building.{BothWays, Input, Output}
-use Rattle.vd_elaboration.specs.Facets.{ByMode, ByView, ElementMode}
+use Rattle.vd_meaning.specs.Building.{BothWays, Input, Output}
+use Rattle.vd_meaning.specs.NodeFacets.{ByMode, ByView, ElementMode}
 use Rattle.vd_least.specs.Least.{least_of}
 use Rattle.vd_port_agreement.specs.declared.pairs.Pair.{Pair}
 use Rattle.vd_port_agreement.specs.declared.pairs.Side.{Side}

@@ -1,8 +1,8 @@
 -- Facets of the meanings of parts: the numbers of a list of identifiers, and whether an actual is `open`.
 use Rattle.std.proofs.Common.{◌≡◌, ◌++◌, ℕ, Bool, true, false, List, [], ◌∷◌, map, option_to_list, refl, ap, ◌∙◌}
-use Rattle.vd_elaboration.specs.Facets.{Part, nth}
-use Rattle.vd_elaboration.specs.Parts as elaborated
-use Rattle.vd_elaboration.specs.Parts.{part_of, parts}
+use Rattle.vd_meaning.specs.NodeFacets.{Part, nth}
+use Rattle.vd_meaning.specs.Parts as elaborated
+use Rattle.vd_meaning.specs.Parts.{part_of, parts}
 use Rattle.vd_facets.proofs.PassingLemmas.{open_at}
 use Rattle.vd_forest.specs.Forest.{Forest, skipped}
 use Rattle.vd_meaning.specs.Facets.{Meaning, flattened}

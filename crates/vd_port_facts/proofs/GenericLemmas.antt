@@ -2,10 +2,10 @@
 use Rattle.std.proofs.Common.{◌≡◌, ◌++◌, ℕ, List, [], ◌∷◌, Option, Some, None, map, refl, sym, ap, ap₂, ◌∙◌}
 use Rattle.std.proofs.lemmas.List.{append_assoc, map-append}
 use Rattle.vd_declarations.specs.declared.declarations.Declaration.{Declaration}
-use Rattle.vd_elaboration.specs.Elaborations.{units_of}
-use Rattle.vd_elaboration.specs.Facets.{Part, Unit', gathered, nth}
-use Rattle.vd_elaboration.specs.Parts as elaborated
-use Rattle.vd_elaboration.specs.Parts.{part_of, parts}
+use Rattle.vd_meaning.specs.Elaborations.{units_of}
+use Rattle.vd_meaning.specs.NodeFacets.{Part, Unit', gathered, nth}
+use Rattle.vd_meaning.specs.Parts as elaborated
+use Rattle.vd_meaning.specs.Parts.{part_of, parts}
 use Rattle.vd_forest.specs.Forest.{Forest, skipped}
 use Rattle.vd_forms.specs.declared.form.Form.{Form}
 use Rattle.vd_gathering.specs.Gathering.{all_found, with_answer}

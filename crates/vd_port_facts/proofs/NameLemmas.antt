@@ -1,9 +1,9 @@
 -- What is found as named is what trees name.
 use Rattle.std.proofs.Common.{◌≡◌, ℕ, List, [], Option, Some, None, option_to_list, refl, ap, ◌∙◌}
 use Rattle.vd_bytes.specs.declared.places.Place.{Place}
-use Rattle.vd_elaboration.specs.Facets.{Part, nth}
-use Rattle.vd_elaboration.specs.Parts as elaborated
-use Rattle.vd_elaboration.specs.Parts.{node_part, part_of, parts}
+use Rattle.vd_meaning.specs.NodeFacets.{Part, nth}
+use Rattle.vd_meaning.specs.Parts as elaborated
+use Rattle.vd_meaning.specs.Parts.{node_part, part_of, parts}
 use Rattle.vd_forest.specs.Forest.{Forest, skipped}
 use Rattle.vd_forms.specs.declared.form.Form.{Form}
 use Rattle.vd_gathering.specs.Gathering.{all_found, with_answer}

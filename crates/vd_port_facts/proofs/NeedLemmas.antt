@@ -1,9 +1,9 @@
 -- What is needed, by the generics that are left out, is what the definitions say.
 use Rattle.std.proofs.Common.{◌≡◌, ◌+◌, ◌++◌, ◌&&◌, ◌||◌, ℕ, zero, suc, Bool, true, false, cond, not, List, [], ◌∷◌, Option, Some, None, is_some, map, drop, length, refl, sym, ap, ap₂, ◌∙◌, arith}
 use Rattle.std.proofs.lemmas.List.{drop-drop}
-use Rattle.vd_elaboration.specs.Facets.{Actual, Ports}
-use Rattle.vd_elaboration.specs.Hierarchies.{EntityText, entity_in, needed, takes_default}
-use Rattle.vd_elaboration.specs.Instances.{actual_for, named_actual, names_formal, nth_actual, or_placed, unless_open}
+use Rattle.vd_meaning.specs.NodeFacets.{Actual, Ports}
+use Rattle.vd_meaning.specs.Hierarchies.{EntityText, entity_in, needed, takes_default}
+use Rattle.vd_meaning.specs.Instances.{actual_for, named_actual, names_formal, nth_actual, or_placed, unless_open}
 use Rattle.vd_meaning.specs.Facets.{Objects}
 use Rattle.vd_port_facts.specs.Needed.{all_lefts, any_named, is_no_placed, left_out, lefts, needed_by, open_for, with_names}
 use Rattle.vd_port_facts.specs.Reading.{generics_or_none, numbers_of, part_first, read_actual, read_or_none}

@@ -3,10 +3,10 @@ use Rattle.std.proofs.Common.{◌≡◌, ◌++◌, ℕ, Bool, true, false, List,
 use Rattle.std.proofs.lemmas.List.{append-nil, append_assoc, map-append}
 use Rattle.vd_bytes.specs.declared.places.Place.{Place}
 use Rattle.vd_declarations.specs.declared.declarations.Declaration.{Declaration}
-use Rattle.vd_elaboration.specs.Elaborations.{units_of}
-use Rattle.vd_elaboration.specs.Facets.{Part, Ports, Unit', gathered, nth}
-use Rattle.vd_elaboration.specs.Parts as elaborated
-use Rattle.vd_elaboration.specs.Parts.{node_part, part_of, parts}
+use Rattle.vd_meaning.specs.Elaborations.{units_of}
+use Rattle.vd_meaning.specs.NodeFacets.{Part, Ports, Unit', gathered, nth}
+use Rattle.vd_meaning.specs.Parts as elaborated
+use Rattle.vd_meaning.specs.Parts.{node_part, part_of, parts}
 use Rattle.vd_forest.specs.Forest.{Forest, more, nothing, skipped}
 use Rattle.vd_forms.specs.declared.form.Form.{Form}
 use Rattle.vd_gathering.specs.Gathering.{all_found, with_answer}

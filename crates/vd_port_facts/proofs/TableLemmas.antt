@@ -1,9 +1,9 @@
 -- What stands in the tables is what the definitions say of a design.
 use Rattle.std.proofs.Common.{◌≡◌, ◌==◌, ◌++◌, ◌<◌, ◌+◌, ℕ, zero, suc, Bool, true, false, cond, List, [], ◌∷◌, Option, Some, None, map, get_or, slice_index_or, drop, length, refl, sym, ap, ap₂, ◌∙◌, arith}
 use Rattle.std.specs.Str.{bytes_eq}
-use Rattle.vd_elaboration.specs.Elaborations.{units_of}
-use Rattle.vd_elaboration.specs.Facets.{ArchitectureUnit, EntityUnit, Generics, PackageUnit, Ports, Unit'}
-use Rattle.vd_elaboration.specs.Hierarchies.{EntityText, entity_in}
+use Rattle.vd_meaning.specs.Elaborations.{units_of}
+use Rattle.vd_meaning.specs.NodeFacets.{ArchitectureUnit, EntityUnit, Generics, PackageUnit, Ports, Unit'}
+use Rattle.vd_meaning.specs.Hierarchies.{EntityText, entity_in}
 use Rattle.vd_port_facts.specs.Reading.{entities_in, generics_or_none, no_ports, read_generics, read_or_none, read_ports}
 use Rattle.vd_port_facts.specs.Tables.{AreFacts, first_place, generics_found, last_place, no_entity, ports_found}
 use Rattle.vd_port_facts.specs.declared.entities.ListedEntity.{ListedEntity}

@@ -1,9 +1,9 @@
 -- What units are called by, step by step.
 use Rattle.std.proofs.Common.{◌≡◌, ◌≢◌, ℕ, List, [], ◌∷◌, refl, sym, ap, ◌∙◌}
 use Rattle.vd_bytes.specs.declared.places.Place.{Place}
-use Rattle.vd_elaboration.specs.Facets.{Part, last_of, nth}
-use Rattle.vd_elaboration.specs.Parts as elaborated
-use Rattle.vd_elaboration.specs.Parts.{part_of, parts}
+use Rattle.vd_meaning.specs.NodeFacets.{Part, last_of, nth}
+use Rattle.vd_meaning.specs.Parts as elaborated
+use Rattle.vd_meaning.specs.Parts.{part_of, parts}
 use Rattle.vd_facets.specs.Passing.{last_tree}
 use Rattle.vd_forest.specs.Forest.{Forest, more, nothing, skipped}
 use Rattle.vd_forms.specs.declared.form.Form.{Form}

@@ -1,8 +1,8 @@
 -- What is read of the parts of a design: of ports, of the generics of entities, and of the actuals of a generic map.
 use Rattle.std.specs.Prelude.{Bool, List, None, Option, Some, [], false, if◌then◌else◌, is_some, map, true, ℕ, ◌++◌, ◌∷◌}
-use Rattle.vd_elaboration.specs.Facets.{Actual, EntityUnit, Generics, Part, Ports, Unit', nth}
-use Rattle.vd_elaboration.specs.Hierarchies.{EntityText}
-use Rattle.vd_elaboration.specs.Parts.{formal_in, parts}
+use Rattle.vd_meaning.specs.NodeFacets.{Actual, EntityUnit, Generics, Part, Ports, Unit', nth}
+use Rattle.vd_meaning.specs.Hierarchies.{EntityText}
+use Rattle.vd_meaning.specs.Parts.{formal_in, parts}
 use Rattle.vd_forest.specs.Forest.{Forest}
 use Rattle.vd_forms.specs.declared.form.Form.{Form}
 use Rattle.vd_meaning.specs.Facets.{Objects}

@@ -1,6 +1,6 @@
 -- What stands in the tables: where the first ports of a number are listed, and the last entity of a name.
 use Rattle.std.specs.Prelude.{◌≡◌, List, None, Option, Some, [], bytes_eq, if◌then◌else◌, slice_index_or, suc, ℕ, ◌∷◌}
-use Rattle.vd_elaboration.specs.Hierarchies.{entity_in}
+use Rattle.vd_meaning.specs.Hierarchies.{entity_in}
 use Rattle.vd_port_facts.specs.Reading.{generics_or_none, no_generics, no_ports, read_or_none}
 use Rattle.vd_port_facts.specs.declared.entities.ListedEntity.{ListedEntity}
 use Rattle.vd_port_facts.specs.declared.generics.ListedGenerics.{ListedGenerics}

@@ -2,7 +2,7 @@
 
 ghost use Rattle.std.specs.Prelude.{◌≡◌, ◌++◌, IfOk, OnOk, drop, map, nat_eq, ℕ};
 ghost use Rattle.std.specs.HashMap.{get};
-ghost use Rattle.vd_elaboration.specs.Parts.{parts as parts_of};
+ghost use Rattle.vd_meaning.specs.Parts.{parts as parts_of};
 ghost use Rattle.vd_forest.specs.Forest.{skipped};
 ghost use Rattle.vd_meaning.specs.Tables.{Table};
 ghost use Rattle.vd_port_facts.specs.Needed.{is_no_placed as no_placed, left_out, open_for};

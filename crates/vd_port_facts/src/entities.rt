@@ -1,7 +1,7 @@
 //! The entities of a design, by their names.
 
 ghost use Rattle.std.specs.Prelude.{◌≡◌, IfOk, List, None, ℕ};
-ghost use Rattle.vd_elaboration.specs.Elaborations.{units_of};
+ghost use Rattle.vd_meaning.specs.Elaborations.{units_of};
 ghost use Rattle.vd_forest.specs.Forest.{size};
 ghost use Rattle.vd_meaning.specs.Tables.{Table, table};
 ghost use Rattle.vd_port_facts.specs.Reading.{entities_in, name_first};

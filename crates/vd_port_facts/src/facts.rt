@@ -2,7 +2,7 @@
 
 ghost use Rattle.std.specs.Prelude.{◌≡◌, IfOk, List, None, ℕ, nat_eq};
 ghost use Rattle.std.specs.HashMap.{get};
-ghost use Rattle.vd_elaboration.specs.Hierarchies.{entity_in};
+ghost use Rattle.vd_meaning.specs.Hierarchies.{entity_in};
 ghost use Rattle.vd_port_facts.specs.Tables.{generics_found, ports_found};
 ghost use Rattle.vd_port_lists.specs.Named.{value_named};
 ghost use Rattle.vd_port_modes.specs.Source.{design_in};

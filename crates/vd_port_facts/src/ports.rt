@@ -2,7 +2,7 @@
 
 ghost use Rattle.std.specs.Prelude.{◌≡◌, IfOk, OnOk, Some, if◌then◌else◌, map, nat_eq, ℕ};
 ghost use Rattle.std.specs.HashMap.{get};
-ghost use Rattle.vd_elaboration.specs.Elaborations.{units_of};
+ghost use Rattle.vd_meaning.specs.Elaborations.{units_of};
 ghost use Rattle.vd_meaning.specs.Tables.{Table, table};
 ghost use Rattle.vd_port_facts.specs.Reading.{read_ports};
 ghost use Rattle.vd_port_facts.specs.Seeking.{are_lists as has_lists, lists_behind as trees_behind, lists_in_list as list_inside, lists_in_unit as unit_inside, lists_inside as trees_inside, port_seeker, ports_at, ports_by as ports_of_form};

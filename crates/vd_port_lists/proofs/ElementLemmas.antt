@@ -5,9 +5,9 @@ use Rattle.std.proofs.lemmas.List.{drop_more}
 use Rattle.std.proofs.lemmas.Slice.Eq.{bytes_eq-Decides}
 use Rattle.std.specs.Str.{bytes_eq}
 use Rattle.indexmap.specs.IndexMap.{insert_entry}
-use Rattle.vd_elaboration.specs.Building.{Input}
-use Rattle.vd_elaboration.specs.Facets.{ByMode, ElementMode}
-use Rattle.vd_elaboration.specs.Instances.{element_mode}
+use Rattle.vd_meaning.specs.Building.{Input}
+use Rattle.vd_meaning.specs.NodeFacets.{ByMode, ElementMode}
+use Rattle.vd_meaning.specs.Instances.{element_mode}
 use Rattle.vd_port_lists.specs.Listed.{read_element}
 use Rattle.vd_port_lists.specs.Modes.{read_mode}
 use Rattle.vd_port_lists.specs.Named.{first_named, value_named}

@@ -3,10 +3,10 @@ use Rattle.std.proofs.Common.{◌≡◌, ◌++◌, ℕ, List, [], ◌∷◌, Opt
 use Rattle.std.proofs.lemmas.List.{append-nil, append_assoc}
 use Rattle.vd_bytes.specs.declared.places.Place.{Place}
 use Rattle.vd_declarations.specs.declared.declarations.Declaration.{Declaration}
-use Rattle.vd_elaboration.specs.Elaborations.{units_of, views_as, views_of_instances}
-use Rattle.vd_elaboration.specs.Facets.{ArchitectureUnit, EntityUnit, PackageUnit, Part, Unit', View, gathered, of_meaning}
-use Rattle.vd_elaboration.specs.Parts as elaborated
-use Rattle.vd_elaboration.specs.Parts.{node_part, part_of, parts}
+use Rattle.vd_meaning.specs.Elaborations.{units_of, views_as, views_of_instances}
+use Rattle.vd_meaning.specs.NodeFacets.{ArchitectureUnit, EntityUnit, PackageUnit, Part, Unit', View, gathered, of_meaning}
+use Rattle.vd_meaning.specs.Parts as elaborated
+use Rattle.vd_meaning.specs.Parts.{node_part, part_of, parts}
 use Rattle.vd_forest.specs.Forest.{Forest}
 use Rattle.vd_forms.specs.declared.form.Form.{Form}
 use Rattle.vd_gathering.specs.Gathering.{all_found}

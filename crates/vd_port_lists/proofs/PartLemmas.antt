@@ -1,8 +1,8 @@
 -- What the parts of a node mean to elaboration, as far as the lists of interfaces ask.
 use Rattle.std.proofs.Common.{◌≡◌, ℕ, zero, suc, Bool, true, false, List, [], ◌∷◌, Option, None, map, refl, sym, ap, ap₂, ◌∙◌}
-use Rattle.vd_elaboration.specs.Facets.{ByView, Part, nth}
-use Rattle.vd_elaboration.specs.Parts as elaborated
-use Rattle.vd_elaboration.specs.Parts.{node_part, part_of, parts}
+use Rattle.vd_meaning.specs.NodeFacets.{ByView, Part, nth}
+use Rattle.vd_meaning.specs.Parts as elaborated
+use Rattle.vd_meaning.specs.Parts.{node_part, part_of, parts}
 use Rattle.vd_facets.proofs.PassingLemmas.{declaration_by, declaration_passed, present_by, present_passed}
 use Rattle.vd_facets.specs.Passing.{passing}
 use Rattle.vd_facets.specs.declared.passing.Passing.{Passing}

@@ -2,10 +2,10 @@
 use Rattle.std.proofs.Common.{◌≡◌, ◌++◌, ℕ, List, [], ◌∷◌, Option, Some, None, map, option_to_list, refl, sym, ap, ap₂, ◌∙◌}
 use Rattle.std.proofs.lemmas.List.{append-nil, append_assoc}
 use Rattle.vd_bytes.specs.declared.places.Place.{Place}
-use Rattle.vd_elaboration.specs.Elaborations.{units_of}
-use Rattle.vd_elaboration.specs.Facets.{ElementMode, Part, Ports, Unit', gathered, nth, of_meaning}
-use Rattle.vd_elaboration.specs.Parts as elaborated
-use Rattle.vd_elaboration.specs.Parts.{node_part, part_of, parts}
+use Rattle.vd_meaning.specs.Elaborations.{units_of}
+use Rattle.vd_meaning.specs.NodeFacets.{ElementMode, Part, Ports, Unit', gathered, nth, of_meaning}
+use Rattle.vd_meaning.specs.Parts as elaborated
+use Rattle.vd_meaning.specs.Parts.{node_part, part_of, parts}
 use Rattle.vd_forest.specs.Forest.{Forest}
 use Rattle.vd_forms.specs.declared.form.Form.{Form}
 use Rattle.vd_gathering.specs.Gathering.{all_found}
@@ -87,8 +87,8 @@ module _ (t : Table) where
       append-nil (with_mode (nth 2 (parts t inside)).mode (nth 1 (parts t inside)).meaning.numbers)
       ∙ ap (λ mode. with_mode mode (nth 1 (parts t inside)).meaning.numbers) (part_mode t 2 inside)
   port_step form.ViewPort n m inside =
-      append-nil (with_mode (Rattle.vd_elaboration.specs.Facets.ByView (nth 2 (parts t inside)).meaning.declaration (nth 3 (parts t inside)).meaning.is_present) (nth 1 (parts t inside)).meaning.numbers)
-      ∙ ap₂ (λ view is_converse. with_mode (Rattle.vd_elaboration.specs.Facets.ByView view is_converse) (nth 1 (parts t inside)).meaning.numbers)
+      append-nil (with_mode (Rattle.vd_meaning.specs.NodeFacets.ByView (nth 2 (parts t inside)).meaning.declaration (nth 3 (parts t inside)).meaning.is_present) (nth 1 (parts t inside)).meaning.numbers)
+      ∙ ap₂ (λ view is_converse. with_mode (Rattle.vd_meaning.specs.NodeFacets.ByView view is_converse) (nth 1 (parts t inside)).meaning.numbers)
       (part_declared t 2 inside) (part_present t 3 inside)
   port_step _ n m inside = gathered_through one_by_one (λ p. p.ports) refl one_by_one_joined (parts t inside)
 

@@ -3,8 +3,8 @@ use Rattle.std.proofs.Common.{◌≡◌, ◌++◌, ◌-◌, ◌==◌, ℕ, zero,
 use Rattle.std.proofs.lemmas.Bool.Decides.{nat_tests}
 use Rattle.std.proofs.lemmas.List.{append-nil, append_assoc}
 use Rattle.vd_bytes.specs.declared.places.Place.{Place}
-use Rattle.vd_elaboration.specs.Facets.{Part, gathered, nth, of_meaning}
-use Rattle.vd_elaboration.specs.Parts.{node_part, parts}
+use Rattle.vd_meaning.specs.NodeFacets.{Part, gathered, nth, of_meaning}
+use Rattle.vd_meaning.specs.Parts.{node_part, parts}
 use Rattle.vd_forest.specs.Forest.{Forest, more, nothing}
 use Rattle.vd_forms.specs.declared.form.Form.{Form}
 use Rattle.vd_gathering.specs.Gathering.{all_found, with_answer}

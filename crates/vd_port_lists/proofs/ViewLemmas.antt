@@ -2,9 +2,9 @@
 use Rattle.std.proofs.Common.{◌≡◌, ◌++◌, ℕ, List, [], ◌∷◌, Option, map, refl, sym, ap, ◌∙◌}
 use Rattle.vd_bytes.specs.declared.places.Place.{Place}
 use Rattle.vd_declarations.specs.declared.declarations.Declaration.{Declaration}
-use Rattle.vd_elaboration.specs.Facets.{ElementMode, Part, View, ViewElement, gathered, nth, of_meaning}
-use Rattle.vd_elaboration.specs.Parts as elaborated
-use Rattle.vd_elaboration.specs.Parts.{element_parts, node_part, part_of, parts}
+use Rattle.vd_meaning.specs.NodeFacets.{ElementMode, Part, View, ViewElement, gathered, nth, of_meaning}
+use Rattle.vd_meaning.specs.Parts as elaborated
+use Rattle.vd_meaning.specs.Parts.{element_parts, node_part, part_of, parts}
 use Rattle.vd_forest.specs.Forest.{Forest, skipped}
 use Rattle.vd_forms.specs.declared.form.Form.{Form}
 use Rattle.vd_gathering.specs.Gathering.{all_found}

@@ -1,8 +1,8 @@
 -- What the entries of the lists are read as.
 use Rattle.std.specs.Prelude.{◌++◌, ◌∷◌, List, [], map, ℕ}
-use Rattle.vd_elaboration.specs.Elaborations.{views_as}
-use Rattle.vd_elaboration.specs.Facets.{ElementMode, Ports, View, ViewElement, gathered}
-use Rattle.vd_elaboration.specs.Parts.{parts}
+use Rattle.vd_meaning.specs.Elaborations.{views_as}
+use Rattle.vd_meaning.specs.NodeFacets.{ElementMode, Ports, View, ViewElement, gathered}
+use Rattle.vd_meaning.specs.Parts.{parts}
 use Rattle.vd_meaning.specs.Tables.{Table, copies_in, table}
 use Rattle.vd_port_lists.specs.Modes.{read_mode}
 use Rattle.vd_port_lists.specs.declared.entries.ListedElement.{ListedElement}

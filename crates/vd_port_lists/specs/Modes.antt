@@ -1,8 +1,8 @@
 -- What is read of modes: those that elaboration has.
-use Rattle.vd_elaboration.specs.Building.{Mode}
-use Rattle.vd_elaboration.specs.Building as elaborated
-use Rattle.vd_elaboration.specs.Facets.{ByMode, ElementMode}
-use Rattle.vd_elaboration.specs.Facets as facets
+use Rattle.vd_meaning.specs.Building.{Mode}
+use Rattle.vd_meaning.specs.Building as elaborated
+use Rattle.vd_meaning.specs.NodeFacets.{ByMode, ElementMode}
+use Rattle.vd_meaning.specs.NodeFacets as facets
 use Rattle.vd_port_lists.specs.declared.modes.Mode.{Mode as WrittenMode}
 use Rattle.vd_port_lists.specs.declared.modes.Mode.TheVariants.{BothWays, Input, Output}
 use Rattle.vd_port_lists.specs.declared.modes.PortMode.{PortMode}

@@ -1,7 +1,7 @@
 //! Elements of a view.
 
 ghost use Rattle.std.specs.Prelude.{◌≡◌, IfOk, OnOk, None, map, ℕ, List};
-ghost use Rattle.vd_elaboration.specs.Instances.{element_mode};
+ghost use Rattle.vd_meaning.specs.Instances.{element_mode};
 ghost use Rattle.vd_port_lists.specs.Listed.{read_element};
 ghost use Rattle.vd_port_lists.specs.Modes.{read_mode};
 ghost use Rattle.vd_port_lists.specs.Named.{first_named, value_named};

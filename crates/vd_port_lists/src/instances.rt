@@ -1,8 +1,8 @@
 //! The instances of packages in a design.
 
 ghost use Rattle.std.specs.Prelude.{◌≡◌, IfOk, List, ℕ};
-ghost use Rattle.vd_elaboration.specs.Elaborations.{units_of, views_of_instances};
-ghost use Rattle.vd_elaboration.specs.Facets.{View};
+ghost use Rattle.vd_meaning.specs.Elaborations.{units_of, views_of_instances};
+ghost use Rattle.vd_meaning.specs.NodeFacets.{View};
 ghost use Rattle.vd_forest.specs.Forest.{Forest};
 ghost use Rattle.vd_meaning.specs.Tables.{Table, table};
 ghost use Rattle.vd_port_lists.specs.Listed.{views_of_listed};

@@ -2,7 +2,7 @@
 
 ghost use Rattle.std.specs.Prelude.{◌≡◌, IfOk, List, map, ℕ};
 ghost use Rattle.vd_forest.specs.Forest.{Forest};
-ghost use Rattle.vd_elaboration.specs.Elaborations.{units_of};
+ghost use Rattle.vd_meaning.specs.Elaborations.{units_of};
 ghost use Rattle.vd_meaning.specs.Tables.{Table, table};
 ghost use Rattle.vd_port_lists.specs.Listed.{one_by_one, read_port};
 ghost use Rattle.vd_port_lists.specs.Seeking.{inside_for_ports as all_inside, named_port as port_named, port_at as port_answered, port_seeker};

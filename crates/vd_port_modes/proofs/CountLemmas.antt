@@ -1,8 +1,8 @@
 -- How many views there are, one by one.
 use Rattle.std.proofs.Common.{◌≡◌, ◌+◌, ◌≤◌, ℕ, zero, suc, List, [], ◌∷◌, ◌++◌, Bool, true, false, cond, is_some, Option, Some, None, length, map, refl, sym, ap, ◌∙◌, arith}
 use Rattle.std.proofs.lemmas.List.{length-append, length-map}
-use Rattle.vd_elaboration.specs.Elaborations.{copied, units_of, view_as, views_as, views_of_instances}
-use Rattle.vd_elaboration.specs.Facets.{View}
+use Rattle.vd_meaning.specs.Elaborations.{copied, units_of, view_as, views_as, views_of_instances}
+use Rattle.vd_meaning.specs.NodeFacets.{View}
 use Rattle.vd_meaning.specs.Tables.{Table, copies_in, table}
 use Rattle.vd_port_lists.specs.Listed.{own_views, read_view, views_of_listed}
 use Rattle.vd_port_lists.specs.declared.entries.ListedInstance.{ListedInstance}

@@ -2,10 +2,10 @@
 use Rattle.std.proofs.Common.{◌≡◌, ◌==◌, ◌++◌, ◌||◌, ℕ, zero, suc, Bool, true, false, cond, List, [], ◌∷◌, Option, Some, None, map, get_or, slice_index_or, drop, refl, sym, ap, ap₂, ◌∙◌, arith}
 use Rattle.std.proofs.lemmas.Bool.Decides.{nat_tests}
 use Rattle.std.specs.Str.{bytes_eq}
-use Rattle.vd_elaboration.specs.Building.{Input}
-use Rattle.vd_elaboration.specs.Elaborations.{copied, element_as, mode_as, units_of, view_as, views_as, views_of_instances}
-use Rattle.vd_elaboration.specs.Facets.{ByMode, ElementMode, Ports, View, ViewElement}
-use Rattle.vd_elaboration.specs.Instances.{element_mode, view_in}
+use Rattle.vd_meaning.specs.Building.{Input}
+use Rattle.vd_meaning.specs.Elaborations.{copied, element_as, mode_as, units_of, view_as, views_as, views_of_instances}
+use Rattle.vd_meaning.specs.NodeFacets.{ByMode, ElementMode, Ports, View, ViewElement}
+use Rattle.vd_meaning.specs.Instances.{element_mode, view_in}
 use Rattle.vd_meaning.specs.Brackets.{or_else}
 use Rattle.vd_meaning.specs.Names.{number_or}
 use Rattle.vd_meaning.specs.Tables.{Table, copies_in, same_type, table}

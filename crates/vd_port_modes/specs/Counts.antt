@@ -1,7 +1,7 @@
 -- How many views there are.
 use Rattle.std.specs.Prelude.{◌+◌, ◌++◌, ◌∷◌, List, [], length, map, ℕ}
-use Rattle.vd_elaboration.specs.Elaborations.{views_as}
-use Rattle.vd_elaboration.specs.Facets.{View}
+use Rattle.vd_meaning.specs.Elaborations.{views_as}
+use Rattle.vd_meaning.specs.NodeFacets.{View}
 use Rattle.vd_port_lists.specs.Listed.{read_view}
 use Rattle.vd_port_lists.specs.declared.views.ListedView.{ListedView}
 

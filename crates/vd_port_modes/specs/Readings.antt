@@ -1,7 +1,7 @@
 -- What values of the code are read as.
 use Rattle.std.specs.Prelude.{◌++◌, ◌∷◌, List, None, Option, Some, [], true, ℕ}
 use Rattle.std.specs.Borrow.{Bor}
-use Rattle.vd_elaboration.specs.Building.{Mode}
+use Rattle.vd_meaning.specs.Building.{Mode}
 use Rattle.vd_port_lists.specs.Modes.{read_mode, read_plain}
 use Rattle.vd_port_lists.specs.declared.modes.Mode.{Mode as WrittenMode}
 use Rattle.vd_port_modes.specs.declared.found.Oriented.{Oriented as WrittenOriented}

@@ -1,9 +1,9 @@
 -- What stands in the tables for each number: the mode of the first port of the number, and where the first view of the number is found.
 use Rattle.std.specs.Prelude.{◌==◌, ◌≡◌, List, None, Option, Some, [], if◌then◌else◌, length, map, slice_index_or, suc, ℕ, ◌∷◌}
-use Rattle.vd_elaboration.specs.Building.{Input}
-use Rattle.vd_elaboration.specs.Elaborations.{copied, element_as, number_as}
-use Rattle.vd_elaboration.specs.Facets.{ByMode, ElementMode, View, ViewElement}
-use Rattle.vd_elaboration.specs.Instances.{view_in}
+use Rattle.vd_meaning.specs.Building.{Input}
+use Rattle.vd_meaning.specs.Elaborations.{copied, element_as, number_as}
+use Rattle.vd_meaning.specs.NodeFacets.{ByMode, ElementMode, View, ViewElement}
+use Rattle.vd_meaning.specs.Instances.{view_in}
 use Rattle.vd_meaning.specs.Tables.{same_type}
 use Rattle.vd_port_lists.specs.Listed.{read_view}
 use Rattle.vd_port_lists.specs.Modes.{read_mode}

@@ -2,7 +2,7 @@
 
 ghost use Rattle.std.specs.Prelude.{◌≡◌, ◌++◌, IfOk, OnOk, ℕ, nat_eq};
 ghost use Rattle.std.specs.HashMap.{get};
-ghost use Rattle.vd_elaboration.specs.Elaborations.{copied, mode_as, number_as};
+ghost use Rattle.vd_meaning.specs.Elaborations.{copied, mode_as, number_as};
 ghost use Rattle.vd_meaning.specs.Tables.{pairs};
 ghost use Rattle.vd_port_lists.specs.Modes.{read_mode};
 ghost use Rattle.vd_port_modes.specs.Source.{copies_there, declared_there};
@@ -25,7 +25,7 @@ impl Model for Copies {
     ghost use Rattle.std.specs.Prelude.{◌≡◌, ℕ, List, nat_eq};
     ghost use Rattle.std.specs.Coded.{coded_list, coded×, coded_ℕ};
     ghost use Rattle.std.specs.HashMap.{get};
-    ghost use Rattle.vd_elaboration.specs.Elaborations.{copied};
+    ghost use Rattle.vd_meaning.specs.Elaborations.{copied};
 
     ghost Value = { List (ℕ × ℕ) };
 

@@ -1,7 +1,7 @@
 //! Modes of parts of ports, and where views are found.
 
 ghost use Rattle.std.specs.Prelude.{◌≡◌};
-ghost use Rattle.vd_elaboration.specs.Instances.{conversed as is_conversed, differ as they_differ, swapped as is_swapped_mode};
+ghost use Rattle.vd_meaning.specs.Instances.{conversed as is_conversed, differ as they_differ, swapped as is_swapped_mode};
 ghost use Rattle.vd_port_lists.specs.Modes.{read_mode, read_plain};
 ghost use Rattle.vd_port_modes.specs.Readings.{read_oriented, read_plain_some};
 ghost use Rattle.vd_value_rules.specs.Designs.{is_view as has_a_view, mode_in as one_mode_of, straight as is_straight};

@@ -2,8 +2,8 @@
 
 ghost use Rattle.std.specs.Prelude.{◌≡◌, IfOk, List, Some, [], length, map, nat_eq, slice_index_or, ℕ};
 ghost use Rattle.std.specs.HashMap.{get};
-ghost use Rattle.vd_elaboration.specs.Elaborations.{mode_as, number_as};
-ghost use Rattle.vd_elaboration.specs.Instances.{element_mode, view_in};
+ghost use Rattle.vd_meaning.specs.Elaborations.{mode_as, number_as};
+ghost use Rattle.vd_meaning.specs.Instances.{element_mode, view_in};
 ghost use Rattle.vd_facets.specs.Roles.{read_role};
 ghost use Rattle.vd_meaning.specs.Tables.{role_of as role_in};
 ghost use Rattle.vd_port_lists.specs.Listed.{read_view};

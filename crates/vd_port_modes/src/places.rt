@@ -1,7 +1,7 @@
 //! What names may do: be read, be driven or assigned, and name a port with a view.
 
 ghost use Rattle.std.specs.Prelude.{◌≡◌, None, Option, Some, drop, map};
-ghost use Rattle.vd_elaboration.specs.Building.{is_output as is_out};
+ghost use Rattle.vd_meaning.specs.Building.{is_output as is_out};
 ghost use Rattle.vd_facets.specs.Roles.{read_role};
 ghost use Rattle.vd_meaning.specs.Tables.{role_of as role_named};
 ghost use Rattle.vd_port_modes.specs.Readings.{read_fields, read_oriented, read_oriented_some, read_plain_some, read_reached, read_text};

@@ -47,11 +47,18 @@ impl DueBytes {
     pub fn console_alone(alloc: Global, status: u8, console: String) -> DueBytes
         ensures { result ≡ console_alone status (string_bytes console) }
     {
+        DueBytes::bytes_alone(alloc, status, console.into_bytes())
+    }
+
+    /// Bytes of the console alone, which needn't be a text.
+    pub fn bytes_alone(alloc: Global, status: u8, console: Vec<u8>) -> DueBytes
+        ensures { result ≡ console_alone status console.items }
+    {
         DueBytes {
             status,
             design: Bytes::of(Vec::new(alloc)),
             map: Bytes::of(Vec::new(alloc)),
-            console: Bytes::of(console.into_bytes()),
+            console: Bytes::of(console),
         }
     }
 

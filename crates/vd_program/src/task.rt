@@ -34,6 +34,7 @@ pub trait Task {
     ) -> Result<DueBytes, AllocError>
         requires taken { takes self.now (length names.now) }
         requires as_many { length contents.now ≡ length names.now }
+        requires few { length names.now ≤ limit_number limits.Files }
         requires within { total_length contents.now ≤ limit_number limits.Input }
         ensures said { IfOk result (λ due. says self.now (texts_of names.now) contents.now due) }
         ensures own_status { IfOk result (λ due. IsOwnStatus due.status) }

@@ -7,7 +7,7 @@ ghost use Rattle.vd_value_rules.specs.Lengths.{nothing_shaped, shaped_by};
 
 use crate::subtypes::static_length;
 use vd_forest::Store;
-use vd_indicated::IndicatedForm;
+use vd_indicating::IndicatedForm;
 use vd_static_entries::NameSubtype;
 
 /// The subtype of an expression where its form gives one, or else its type, with its known length.

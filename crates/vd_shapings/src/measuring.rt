@@ -23,8 +23,8 @@ use std::alloc::{AllocError, Global};
 use std::mem;
 use vd_forest::{Cursor, Opened, Store};
 use vd_from_leaves::{FromLeaves, from_leaves};
-use vd_indicated::IndicatedForm;
 use vd_indicated_fields::FieldTable;
+use vd_indicating::IndicatedForm;
 use vd_operations::tables::{followed, is_predefined};
 use vd_resolved::Resolved;
 

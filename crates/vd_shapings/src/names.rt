@@ -10,8 +10,8 @@ use crate::extents::{Extent, nothing};
 use crate::pieces::{Measured, no_measure, with_piece};
 use std::alloc::AllocError;
 use vd_forest::Store;
-use vd_indicated::IndicatedForm;
 use vd_indicated_fields::FieldTable;
+use vd_indicating::IndicatedForm;
 
 /// The part with a number.
 

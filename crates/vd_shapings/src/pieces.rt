@@ -10,8 +10,8 @@ use crate::subtypes::{element_of, field_of, sliced};
 use std::alloc::AllocError;
 use vd_composites::Bounds;
 use vd_forest::Store;
-use vd_indicated::{IndicatedForm, StaticSort};
 use vd_indicated_fields::FieldTable;
+use vd_indicating::{IndicatedForm, StaticSort};
 
 /// What a list in brackets is behind what isn't an attribute of a type.
 #[derive(Clone, Copy, Debug)]

@@ -15,7 +15,7 @@ use crate::subtypes::{is_array, taken, taken_elements};
 use std::alloc::{AllocError, Global};
 use vd_composites::Bounds;
 use vd_forest::{Cursor, Store};
-use vd_indicated::IndicatedForm;
+use vd_indicating::IndicatedForm;
 use vd_known_designs::KnownDesign;
 use vd_resolved::Resolved;
 

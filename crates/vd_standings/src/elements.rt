@@ -16,7 +16,7 @@ use std::alloc::{AllocError, Global};
 use vd_declarations::DeclId;
 use vd_facets::{formal_of, is_positional};
 use vd_forest::Cursor;
-use vd_indicated::subtypes::has_bounds;
+use vd_indicating::subtypes::has_bounds;
 use vd_known_designs::KnownDesign;
 use vd_resolved::Resolved;
 

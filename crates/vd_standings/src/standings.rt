@@ -22,7 +22,7 @@ use std::alloc::{AllocError, Global};
 use vd_declarations::DeclId;
 use vd_facets::Role;
 use vd_forest::Cursor;
-use vd_indicated::subtypes::has_bounds;
+use vd_indicating::subtypes::has_bounds;
 use vd_known_designs::KnownDesign;
 use vd_known_indications::indicated_twice;
 use vd_operations::tables::{followed, is_predefined, parameters_of};

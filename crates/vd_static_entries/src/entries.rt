@@ -3,7 +3,7 @@
 use vd_composites::{Bounds, Value};
 use vd_declarations::Declaration;
 use vd_forest::Store;
-use vd_indicated::{IndicatedForm, StaticSort};
+use vd_indicating::{IndicatedForm, StaticSort};
 use vd_trees::Revision;
 
 /// What a declaration stands for when the text is analysed.

@@ -1,7 +1,7 @@
 //! What is known of names.
 
 use vd_composites::{Bounds, Value};
-use vd_indicated::StaticSort;
+use vd_indicating::StaticSort;
 
 /// The subtype of a name.
 #[derive(Clone, Copy, Debug)]

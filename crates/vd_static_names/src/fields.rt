@@ -9,8 +9,8 @@ ghost use Rattle.vd_static_names.specs.Parts.{IsField};
 
 use std::alloc::AllocError;
 use vd_forest::Store;
-use vd_indicated::IndicatedForm;
 use vd_indicated_fields::FieldTable;
+use vd_indicating::IndicatedForm;
 use vd_static_entries::NameSubtype;
 
 /// Whether there is a tree.

@@ -6,7 +6,7 @@ ghost use Rattle.vd_static_names.specs.Known.{early_value as value_early};
 
 use std::alloc::{AllocError, Global};
 use vd_composites::{Bounds, Value};
-use vd_indicated::StaticSort;
+use vd_indicating::StaticSort;
 use vd_static_entries::Ground;
 
 /// The subtype of an object or a mark, or of a function's result, by its number in the store.

@@ -6,7 +6,7 @@ ghost use Rattle.vd_composites.specs.declared.ranges.Bounds.{Bounds as Range};
 ghost use Rattle.vd_environments.specs.Environments.{Env, Signals, Static, or_senseless};
 ghost use Rattle.vd_environments.specs.Got.{Got, is_got};
 ghost use Rattle.vd_forest.specs.Store.{at};
-ghost use Rattle.vd_indicated.specs.Indicated.{indicated_in, static_of};
+ghost use Rattle.vd_indicating.specs.Indicated.{indicated_in, static_of};
 ghost use Rattle.vd_indicated_fields.specs.Jumps.{AreJumps};
 ghost use Rattle.vd_meaning.specs.Names.{Named, bounds_of_subtype, element_of_subtype, stepped, to_element, to_field, to_slice};
 ghost use Rattle.vd_static_entries.specs.Entries.{IsFound};
@@ -20,9 +20,9 @@ use crate::subtypes::{element_of, is_array, number_of, sliced};
 use std::alloc::AllocError;
 use vd_composites::Bounds;
 use vd_forest::Store;
-use vd_indicated::arrays::array_bounds;
-use vd_indicated::{IndicatedForm, StaticSort};
 use vd_indicated_fields::FieldTable;
+use vd_indicating::array_facts::array_bounds;
+use vd_indicating::{IndicatedForm, StaticSort};
 use vd_static_entries::{KnownName, NameSubtype, Ranging};
 
 /// The subtype of a part, and its bounds.

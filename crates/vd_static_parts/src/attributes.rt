@@ -16,7 +16,7 @@ use crate::named::{NameAttribute, attribute_named};
 use std::alloc::{AllocError, Global};
 use vd_composites::{Bounds, ScalarType, Value};
 use vd_declarations::TypeId;
-use vd_indicated::StaticSort;
+use vd_indicating::StaticSort;
 use vd_operators::Side;
 use vd_static_entries::{Ground, KnownName, TypeAttribute};
 use vd_static_names::subtypes::scalar_of;

@@ -4,7 +4,7 @@
 ghost use Rattle.std.specs.Prelude.{◌≡◌, ◌∷◌, IfOk, List, OnOk};
 ghost use Rattle.vd_environments.specs.Environments.{is_static as known_in_elaboration};
 ghost use Rattle.vd_forms.specs.declared.form.Form.TheVariants.{PackageInstantiation};
-ghost use Rattle.vd_indicated.specs.Indicated.{static_of};
+ghost use Rattle.vd_indicating.specs.Indicated.{static_of};
 ghost use Rattle.vd_known_designs.specs.Designs.{IsReady, Knows};
 ghost use Rattle.vd_known_indications.specs.Places.{Finds};
 ghost use Rattle.vd_least.specs.Least.{least_of};
@@ -28,7 +28,7 @@ use vd_declarations::{Class, DeclId, Declaration};
 use vd_facets::{declaration_of, is_present};
 use vd_forest::{Cursor, Opened};
 use vd_forms::Form;
-use vd_indicated::StaticSort;
+use vd_indicating::StaticSort;
 use vd_known_designs::KnownDesign;
 use vd_known_indications::{Surroundings, node};
 use vd_least::lesser;

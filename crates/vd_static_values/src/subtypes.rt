@@ -1,13 +1,13 @@
 //! Array subtypes as trees.
 
 ghost use Rattle.std.specs.Prelude.{◌≡◌, IfOk};
-ghost use Rattle.vd_indicated.specs.Indicated.{indicated_in};
+ghost use Rattle.vd_indicating.specs.Indicated.{indicated_in};
 ghost use Rattle.vd_plain_values.specs.Plain.{array_in};
 
 use std::alloc::AllocError;
 use vd_forest::Cursor;
-use vd_indicated::IndicatedForm;
-use vd_indicated::subtypes::head;
+use vd_indicating::IndicatedForm;
+use vd_indicating::subtypes::head;
 use vd_plain_values::environment::ArrayHead;
 
 /// The array subtype that a subtype is.

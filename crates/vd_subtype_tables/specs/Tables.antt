@@ -2,9 +2,9 @@
 use Rattle.std.specs.Prelude.{Bool, List, if◌then◌else◌, ℕ}
 use Rattle.vd_environments.specs.Environments.{Indicated, made_inside}
 use Rattle.vd_forest.specs.Forest.{Forest}
-use Rattle.vd_indicated.specs.Bounds.{IsTableOf}
-use Rattle.vd_indicated.specs.declared.bounds.TreeBounds.{TreeBounds}
-use Rattle.vd_indicated.specs.declared.forms.IndicatedForm.{IndicatedForm}
+use Rattle.vd_indicating.specs.Bounds.{IsTableOf}
+use Rattle.vd_indicating.specs.declared.bounds.TreeBounds.{TreeBounds}
+use Rattle.vd_indicating.specs.declared.forms.IndicatedForm.{IndicatedForm}
 use Rattle.vd_indicating.specs.Inside.{AreInside}
 
 -- two tables are of these trees

@@ -67,7 +67,7 @@ fn words_that_are_not_taken(rt: HostRuntime) -> Result<(), Fail> {
         [].as_slice(),
         &["--do"],
         &["--do", "convert"],
-        &["--do", "check", "e.vhd"],
+        &["--do", "check", "--top", "e", "e.vhd"],
         &["--do", "run19", "e.vhd"],
         &["--do", "run19", "--top", "e", "e.vhd"],
         &["--do", "convert", "--top", "e", "e.vhd"],
@@ -87,6 +87,19 @@ fn words_that_are_not_taken(rt: HostRuntime) -> Result<(), Fail> {
         )?;
     }
     Ok(())
+}
+
+#[test]
+fn a_check_of_the_same_file(rt: HostRuntime) -> Result<(), Fail> {
+    // The text breaks no rule. Neither a design nor a map is written.
+    called(
+        &rt,
+        rt.alloc(),
+        &["--do", "check", "e.vhd"],
+        SOURCE,
+        &NO_FAULT,
+        &line(0, b"accepted 2 units\n"),
+    )
 }
 
 #[test]

@@ -2,7 +2,7 @@
 
 ghost use Rattle.std.specs.Prelude.{◌≡◌, IfOk, ℕ, nat_eq};
 ghost use Rattle.std.specs.HashMap.{get};
-ghost use Rattle.vd_elaboration.specs.Elaborations.{copied};
+ghost use Rattle.vd_meaning.specs.Elaborations.{copied};
 ghost use Rattle.vd_meaning.specs.Tables.{pairs};
 
 use std::alloc::{AllocError, Global};

@@ -2,7 +2,7 @@
 
 ghost use Rattle.std.specs.Prelude.{◌≡◌, ◌∷◌, IfOk, List, OnOk, Some, ℕ, nat_eq};
 ghost use Rattle.std.specs.HashMap.{get};
-ghost use Rattle.vd_elaboration.specs.Elaborations.{copied};
+ghost use Rattle.vd_meaning.specs.Elaborations.{copied};
 ghost use Rattle.vd_known_designs.specs.Designs.{IsReady, Knows};
 ghost use Rattle.vd_known_indications.specs.Places.{Finds};
 ghost use Rattle.vd_least.specs.Least.{least_of};
@@ -22,7 +22,7 @@ use vd_declarations::{Class, DeclId};
 use vd_facets::{declaration_of, number_made};
 use vd_forest::{Cursor, Opened};
 use vd_forms::Form;
-use vd_indicated::subtypes::has_bounds;
+use vd_indicating::subtypes::has_bounds;
 use vd_known_actuals::{actual_mark, generics_of};
 use vd_known_designs::KnownDesign;
 use vd_known_indications::Surroundings;

@@ -6,10 +6,10 @@ use Rattle.std.specs.List.{list_all, list_any}
 use Rattle.vd_bytes.specs.declared.answers.Refused.{Refused}
 use Rattle.vd_bytes.specs.declared.places.Place.{Place}
 use Rattle.vd_composites.specs.Subtypes.{Scalars, Subtype}
-use Rattle.vd_elaboration.specs.Building.{BothWays, Input, Mode, Output}
-use Rattle.vd_elaboration.specs.Facets.{Actual, ByMode, ByView, ElementMode, Ports, ViewElement}
-use Rattle.vd_elaboration.specs.Hierarchies.{EntityText, entity_in, needed}
-use Rattle.vd_elaboration.specs.Instances.{actual_for, conversed}
+use Rattle.vd_meaning.specs.Building.{BothWays, Input, Mode, Output}
+use Rattle.vd_meaning.specs.NodeFacets.{Actual, ByMode, ByView, ElementMode, Ports, ViewElement}
+use Rattle.vd_meaning.specs.Hierarchies.{EntityText, entity_in, needed}
+use Rattle.vd_meaning.specs.Instances.{actual_for, conversed}
 use Rattle.vd_environments.specs.Environments.{Env, is_static}
 use Rattle.vd_forest.specs.Forest.{Forest, more, nothing, parts_of, skipped, tree_count}
 use Rattle.vd_forms.specs.declared.form.Form.{Form}
@@ -376,7 +376,7 @@ port_map_broken d e x ports elements =
 -- ---- instances
 
 abbrev pub generic_actuals_of : Design → Forest Resolved → List Actual
-generic_actuals_of d parts = (Rattle.vd_elaboration.specs.Facets.nth 2 (Rattle.vd_elaboration.specs.Parts.parts d.table parts)).actuals
+generic_actuals_of d parts = (Rattle.vd_meaning.specs.NodeFacets.nth 2 (Rattle.vd_meaning.specs.Parts.parts d.table parts)).actuals
 
 abbrev pub instance_broken : Form → Design → State → Place → Forest Resolved → List Refused
 instance_broken form.EntityInstantiation d s place parts =

@@ -2,7 +2,7 @@
 -- functions have where generics stand for their actuals. (IEEE 1076, declarations; generic map aspects; subprogram and package instantiation declarations.)
 use Rattle.std.specs.Prelude.{Bool, List, None, Option, Some, [], false, if◌then◌else◌, true, ℕ, ◌++◌, ◌∷◌}
 use Rattle.vd_composites.specs.Composites.{Value}
-use Rattle.vd_elaboration.specs.Instances.{known_early}
+use Rattle.vd_meaning.specs.Instances.{known_early}
 use Rattle.vd_environments.specs.Environments.{Argument, Denotation, Env, Function, GenericActual, Indicated, Static, never, nothing_denoted, with_entry, with_subtype}
 use Rattle.vd_environments.specs.Got.{Got, senseless}
 use Rattle.vd_forest.specs.Forest.{Forest, more, nothing, skipped}

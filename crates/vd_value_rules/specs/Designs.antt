@@ -2,10 +2,10 @@
 use Rattle.std.specs.Prelude.{Bool, List, None, Option, Some, [], false, if◌then◌else◌, true, ℕ, ◌++◌, ◌==◌, ◌∷◌}
 use Rattle.std.specs.List.{list_any}
 use Rattle.vd_declarations.specs.declared.classes.Class.{Class}
-use Rattle.vd_elaboration.specs.Building.{Input, Mode}
-use Rattle.vd_elaboration.specs.Elaborations.{Units, units_of}
-use Rattle.vd_elaboration.specs.Facets.{ByMode, ByView, ElementMode, EntityUnit, Ports, Unit', View, ViewElement}
-use Rattle.vd_elaboration.specs.Instances.{conversed, differ, element_mode, view_in}
+use Rattle.vd_meaning.specs.Building.{Input, Mode}
+use Rattle.vd_meaning.specs.Elaborations.{Units, units_of}
+use Rattle.vd_meaning.specs.NodeFacets.{ByMode, ByView, ElementMode, EntityUnit, Ports, Unit', View, ViewElement}
+use Rattle.vd_meaning.specs.Instances.{conversed, differ, element_mode, view_in}
 use Rattle.vd_meaning.specs.Tables.{Table, table}
 use Rattle.vd_resolved.specs.Trees.{ResolvedTree}
 use Rattle.vd_trees.specs.declared.revision.Revision.{Revision}

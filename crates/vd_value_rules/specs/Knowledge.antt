@@ -9,9 +9,9 @@ use Rattle.vd_composites.specs.Stops.{◌>>=◌}
 use Rattle.vd_composites.specs.Subtypes.{Arrays, Scalars, Subtype, constrained, default_of, fit}
 use Rattle.vd_composites.specs.declared.ranges.Bounds.{Bounds}
 use Rattle.vd_composites.specs.declared.scalars.ScalarType.TheVariants.{Integers}
-use Rattle.vd_elaboration.specs.Facets.{View}
-use Rattle.vd_elaboration.specs.Instances.{view_in}
-use Rattle.vd_elaboration.specs.Layouts.{layout, numbered}
+use Rattle.vd_meaning.specs.NodeFacets.{View}
+use Rattle.vd_meaning.specs.Instances.{view_in}
+use Rattle.vd_meaning.specs.Layouts.{layout, numbered}
 use Rattle.vd_environments.specs.Environments.{Argument, Denotation, Env, Field, Indicated, Make, OfElements, OfScalar, Signals, Static, always, denoting, made_narrower, nothing_denoted, or_senseless, with_object, with_signals}
 use Rattle.vd_environments.specs.Got.{Got, got, senseless}
 use Rattle.vd_forest.specs.Forest.{Forest, more, nothing, parts_of, skipped}

@@ -4,8 +4,8 @@ use Rattle.std.specs.Prelude.{◌==◌, Bool, List, None, Option, Some, [], byte
 use Rattle.std.specs.List.{list_all}
 use Rattle.vd_bytes.specs.declared.answers.Refused.{Refused}
 use Rattle.vd_bytes.specs.declared.places.Place.{Place}
-use Rattle.vd_elaboration.specs.Building.{is_output}
-use Rattle.vd_elaboration.specs.Instances.{view_in}
+use Rattle.vd_meaning.specs.Building.{is_output}
+use Rattle.vd_meaning.specs.Instances.{view_in}
 use Rattle.vd_forest.specs.Forest.{Forest, more, nothing, skipped}
 use Rattle.vd_forms.specs.declared.form.Form.{Form}
 use Rattle.vd_meaning.specs.Brackets.{or_else}

@@ -2,7 +2,7 @@
 -- it has there, where it is a port. (IEEE 1076, names; interface declarations; mode views.)
 use Rattle.std.specs.Prelude.{Bool, List, None, Option, Some, [], codes, false, if◌then◌else◌, is_some, not, true, ℕ, ◌&&◌, ◌++◌, ◌||◌, ◌∷◌}
 use Rattle.vd_declarations.specs.declared.classes.Class.{Class}
-use Rattle.vd_elaboration.specs.Building.{Input, Mode}
+use Rattle.vd_meaning.specs.Building.{Input, Mode}
 use Rattle.vd_forest.specs.Forest.{Forest, more, nothing, text_of}
 use Rattle.vd_forms.specs.declared.form.Form.{Form}
 use Rattle.vd_meaning.specs.Tables.{ElementRole, FunctionRole, MarkRole, Role, SignalRole, VariableRole, role_of}

@@ -2,7 +2,7 @@
 use Rattle.std.specs.Prelude.{Bool, List, None, Option, Some, [], false, if◌then◌else◌, not, true, ℕ, ◌&&◌, ◌++◌, ◌||◌, ◌∷◌}
 use Rattle.vd_bytes.specs.declared.places.Place.{Place}
 use Rattle.vd_declarations.specs.declared.classes.Class.{Class}
-use Rattle.vd_elaboration.specs.Instances.{known_early}
+use Rattle.vd_meaning.specs.Instances.{known_early}
 use Rattle.vd_environments.specs.Environments.{Env, Indicated, Static, inside, never}
 use Rattle.vd_forest.specs.Forest.{Forest, more, nothing}
 use Rattle.vd_forms.specs.declared.form.Form.{Form}

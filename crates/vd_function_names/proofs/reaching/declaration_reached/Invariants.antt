@@ -1,5 +1,5 @@
 use Rattle.std.proofs.Common.{◌≡◌}
-use Rattle.vd_elaboration.specs.Elaborations.{Units}
+use Rattle.vd_meaning.specs.Elaborations.{Units}
 use Rattle.vd_forest.specs.Forest.{tree_count}
 use Rattle.vd_function_names.proofs.ReachingLemmas.{reached_from}
 use Rattle.vd_function_names.proofs.reaching.declaration_reached.Given as goal

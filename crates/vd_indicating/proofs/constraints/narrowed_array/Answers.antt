@@ -1,6 +1,6 @@
 use Rattle.std.proofs.Common.{Some, ap, sym, ◌∙◌}
 use Rattle.vd_environments.specs.Environments.{both}
-use Rattle.vd_indicated.specs.Indicated.{all_but_first, array_indicated, first_indicated, static_of}
+use Rattle.vd_indicating.specs.Indicated.{all_but_first, array_indicated, first_indicated, static_of}
 use Rattle.vd_indicating.proofs.ConstraintLemmas.{array_left, array_taken}
 use Rattle.vd_value_rules.specs.Knowledge.{later_bounds}
 use Rattle.vd_indicating.proofs.constraints.narrowed_array.Goals as goal

@@ -1,6 +1,6 @@
 use Rattle.std.proofs.Common.{ap, sym, ◌∙◌}
 use Rattle.vd_environments.specs.Environments.{both}
-use Rattle.vd_indicated.specs.Indicated.{static_of}
+use Rattle.vd_indicating.specs.Indicated.{static_of}
 use Rattle.vd_indicating.specs.Made.{scalar_indicated}
 use Rattle.vd_indicating.proofs.ConstraintLemmas.{scalar_left, scalar_taken}
 use Rattle.vd_indicating.proofs.constraints.narrowed_scalar.Goals as goal

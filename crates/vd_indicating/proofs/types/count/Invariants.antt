@@ -1,6 +1,6 @@
 use Rattle.std.proofs.Common.{◌≡◌, ◌+◌, length}
 use Rattle.vd_forest.specs.Forest.{size}
-use Rattle.vd_indicated.specs.Indicated.{texts_in}
+use Rattle.vd_indicating.specs.Indicated.{texts_in}
 use Rattle.vd_indicating.proofs.types.count.Given as goal
 
 abbrev pub invariant-loop-first : goal.invariant-loop-first

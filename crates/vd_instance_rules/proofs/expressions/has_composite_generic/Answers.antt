@@ -1,6 +1,6 @@
 use Rattle.std.proofs.Common.{◌∙◌, ap}
 use Rattle.std.specs.Prelude.{None}
-use Rattle.vd_elaboration.specs.Hierarchies.{entity_in}
+use Rattle.vd_meaning.specs.Hierarchies.{entity_in}
 use Rattle.vd_instance_rules.specs.Instances.{design_at}
 use Rattle.vd_port_modes.specs.Source.{Source, design_in}
 use Rattle.vd_value_rules.specs.Actuals.{generic_actuals_of, named_in_ports, named_with_defaults, names_composite}

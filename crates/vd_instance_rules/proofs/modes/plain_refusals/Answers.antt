@@ -2,7 +2,7 @@ use Rattle.std.proofs.Common.{ap, sym}
 use Rattle.vd_instance_rules.proofs.FirstLemmas.{found_same}
 use Rattle.vd_instance_rules.specs.Instances.{design_at, port_map_at, read_association}
 use Rattle.vd_port_associations.specs.Associations.{read_actual}
-use Rattle.vd_elaboration.specs.Facets.{ByMode}
+use Rattle.vd_meaning.specs.NodeFacets.{ByMode}
 use Rattle.vd_port_lists.specs.Modes.{read_plain}
 use Rattle.vd_port_lists.specs.declared.modes.Mode.{Mode}
 use Rattle.vd_rule_groups.specs.Groups.{firsts_of}

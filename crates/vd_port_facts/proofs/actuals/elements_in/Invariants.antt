@@ -1,5 +1,5 @@
 use Rattle.std.proofs.Common.{◌≡◌, ◌++◌, map}
-use Rattle.vd_elaboration.specs.Parts.{parts}
+use Rattle.vd_meaning.specs.Parts.{parts}
 use Rattle.vd_forest.specs.Forest.{tree_count}
 use Rattle.vd_meaning.specs.Tables.{Table}
 use Rattle.vd_port_facts.specs.Reading.{read_element}

@@ -1,7 +1,7 @@
 use Rattle.std.proofs.Common.{◌≡◌, ◌≤◌, ℕ, drop, length}
 use Rattle.std.specs.Prelude.{nat_eq}
 use Rattle.std.specs.HashMap.{get}
-use Rattle.vd_elaboration.specs.Elaborations.{copied}
+use Rattle.vd_meaning.specs.Elaborations.{copied}
 use Rattle.vd_port_modes.proofs.copies.table_of.Given as goal
 
 abbrev pub invariant-loop-left : goal.invariant-loop-left

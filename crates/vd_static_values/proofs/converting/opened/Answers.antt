@@ -1,6 +1,6 @@
 use Rattle.std.proofs.Common.{None, Some, [], ap, subst, sym, true, ◌++◌, ◌∙◌, ◌∷◌, ◌≡◌}
 use Rattle.std.specs.Prelude.{is_some}
-use Rattle.vd_indicated.specs.Indicated.{index_of, indicated_in}
+use Rattle.vd_indicating.specs.Indicated.{index_of, indicated_in}
 use Rattle.vd_indicating.specs.Found.{found}
 use Rattle.vd_static_values.proofs.LevelLemmas.{element_is_less, level_of, opened_first, opened_last, opened_more, opened_stops}
 use Rattle.vd_static_values.specs.Finding.{IsListFound}

@@ -1,4 +1,4 @@
-use Rattle.vd_command.proofs.ConversionLemmas.{fits_alone}
+use Rattle.vd_command.proofs.JobLemmas.{fits_alone}
 use Rattle.vd_tests.proofs.runs.traced93.Goals as goal
 
 pub run93-requires-clause-columns : goal.run93-requires-clause-columns

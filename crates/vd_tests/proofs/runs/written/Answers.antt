@@ -1,4 +1,4 @@
-use Rattle.vd_command.proofs.ConversionLemmas.{fits_alone}
+use Rattle.vd_command.proofs.JobLemmas.{fits_alone}
 use Rattle.vd_tests.proofs.runs.written.Goals as goal
 
 pub convert-requires-clause-columns : goal.convert-requires-clause-columns

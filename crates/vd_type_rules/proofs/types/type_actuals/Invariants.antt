@@ -1,7 +1,7 @@
 use Rattle.std.proofs.Common.{◌≡◌, ◌∷◌, List, ℕ}
 use Rattle.std.specs.HashMap.{get}
 use Rattle.std.specs.Prelude.{nat_eq}
-use Rattle.vd_elaboration.specs.Elaborations.{copied}
+use Rattle.vd_meaning.specs.Elaborations.{copied}
 use Rattle.vd_forest.specs.Forest.{tree_count}
 use Rattle.vd_known_designs.specs.Designs.{Knows}
 use Rattle.vd_least.specs.Least.{least_of, lesser}

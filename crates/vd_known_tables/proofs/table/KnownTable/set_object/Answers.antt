@@ -1,7 +1,7 @@
 use Rattle.std.proofs.Common.{subst, sym, ◌∙◌}
 use Rattle.vd_forest.proofs.StoreLemmas.{extends_same, extends_trans}
 use Rattle.vd_forest.specs.Store.{Extends, at}
-use Rattle.vd_indicated.specs.Indicated.{indicated_in, static_of}
+use Rattle.vd_indicating.specs.Indicated.{indicated_in, static_of}
 use Rattle.vd_indicating.specs.Made.{object_of}
 use Rattle.vd_known_tables.proofs.DeclaredLemmas.{declared_same, same_entry, same_indicated}
 use Rattle.vd_known_tables.proofs.KnownLemmas.{has_known_grown, indicates_grown}

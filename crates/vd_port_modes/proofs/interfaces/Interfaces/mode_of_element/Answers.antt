@@ -1,4 +1,4 @@
-use Rattle.vd_elaboration.specs.Instances.{element_mode}
+use Rattle.vd_meaning.specs.Instances.{element_mode}
 use Rattle.vd_port_lists.specs.Modes.{read_mode}
 use Rattle.vd_port_modes.proofs.TableLemmas.{view_answered}
 use Rattle.vd_value_rules.specs.Designs.{elements_of}

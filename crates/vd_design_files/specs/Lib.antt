@@ -1,0 +1,4 @@
+pub mod InOrder
+pub mod Files
+pub mod Ends
+pub mod Laws

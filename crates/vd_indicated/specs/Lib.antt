@@ -1,2 +1,0 @@
-pub mod Indicated
-pub mod Bounds

@@ -1,0 +1,2 @@
+pub mod TopNames
+pub mod Tops
