@@ -9,7 +9,7 @@ ghost use Rattle.vd_port_modes.specs.Source.{design_in};
 ghost use Rattle.vd_value_rules.specs.Designs.{Design};
 ghost use Rattle.vd_value_rules.specs.Knowledge.{Known};
 ghost use Rattle.vd_value_rules.specs.Standings.{is_copied_down, known_down, known_inside, label_down, returning, with_parameter};
-ghost use Rattle.vd_indicating.specs.Indicated.{static_of};
+ghost use Rattle.vd_value_rules.specs.Indicated.{static_of};
 
 use std::alloc::{AllocError, Global};
 use vd_bytes::Place;
@@ -17,7 +17,6 @@ use vd_declarations::{Class, DeclId};
 use vd_facets::{declaration_of, is_present, number_made};
 use vd_forest::Cursor;
 use vd_forms::Form;
-use vd_indicating::StaticSort;
 use vd_known_designs::KnownDesign;
 use vd_known_indications::node;
 use vd_known_objects::objects::later_objects;
@@ -25,6 +24,7 @@ use vd_operations::tables::class_of;
 use vd_port_modes::Interfaces;
 use vd_resolved::Resolved;
 use vd_static_entries::Sense;
+use vd_value_rules::StaticSort;
 
 /// The declaration of the type of an expression.
 fn type_of(sense: &Sense<'_>) -> Option<DeclId>

@@ -20,7 +20,6 @@ use vd_bytes::{Place, Refused};
 use vd_declarations::{Class, DeclId, TypeId};
 use vd_forest::{Cursor, Opened};
 use vd_forms::Form;
-use vd_indicating::subtypes::has_bounds;
 use vd_known_designs::KnownDesign;
 use vd_known_indications::Surroundings;
 use vd_operations::tables::{class_of, parameters_of};
@@ -28,6 +27,7 @@ use vd_port_modes::Interfaces;
 use vd_resolved::Resolved;
 use vd_rule_groups::Firsts;
 use vd_static_parts::numbers::number_or;
+use vd_value_rules::subtypes::has_bounds;
 
 /// Whether what a declaration stands for has bounds.
 fn has_bounded_subtype(design: &KnownDesign<'_, '_>, declaration: Option<DeclId>) -> bool

@@ -15,11 +15,11 @@ use crate::sorts::{Indication, indication_of, number_of};
 use std::alloc::{AllocError, Global};
 use vd_bytes::{Place, Refused};
 use vd_forest::{Cursor, Opened};
-use vd_indicating::subtypes::has_bounds;
 use vd_known_designs::KnownDesign;
 use vd_known_indications::indicated_twice;
 use vd_resolved::Resolved;
 use vd_rule_groups::refused_if;
+use vd_value_rules::subtypes::has_bounds;
 
 /// Whether the subtype indication with a number is of arrays of any bounds.
 fn has_no_bounds(

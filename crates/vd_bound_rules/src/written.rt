@@ -3,8 +3,8 @@
 ghost use Rattle.std.specs.Prelude.{◌≡◌, ◌∷◌, IfOk, List};
 ghost use Rattle.vd_bound_rules.specs.Written.{IsTypeLength, read_written};
 ghost use Rattle.vd_environments.specs.Environments.{Indicated};
-ghost use Rattle.vd_indicating.specs.Indicated.{indicated_in};
-ghost use Rattle.vd_indicating.specs.Made.{Indicates};
+ghost use Rattle.vd_value_rules.specs.Indicated.{indicated_in};
+ghost use Rattle.vd_value_rules.specs.Made.{Indicates};
 ghost use Rattle.vd_known_designs.specs.Designs.{IsReady, Knows};
 ghost use Rattle.vd_value_rules.specs.Bounds.{WithLength, differs_from_type, is_indefinite as is_of_no_length, same_length as are_as_long, written_of};
 ghost use Rattle.vd_value_rules.specs.Designs.{Design};
@@ -17,12 +17,12 @@ use std::alloc::{AllocError, Global};
 use vd_declarations::TypeId;
 use vd_forest::{Cursor, Opened};
 use vd_forms::Form;
-use vd_indicating::IndicatedForm;
-use vd_indicating::array_facts::{array_bounds, static_length};
 use vd_known_designs::KnownDesign;
 use vd_resolved::Resolved;
 use vd_shapings::operands::is_one_element;
 use vd_shapings::shape_of;
+use vd_value_rules::IndicatedForm;
+use vd_value_rules::array_facts::{array_bounds, static_length};
 
 /// The length of a literal, an aggregate or a concatenation.
 #[derive(Clone, Copy, Debug)]

@@ -8,7 +8,7 @@ use Rattle.vd_composites.specs.declared.ranges.Bounds.{Bounds}
 use Rattle.vd_forest.specs.Forest.{Forest, more, next_of, no_place, nothing, place_of}
 use Rattle.vd_given_choices.specs.Choices.{AreChoices, IsChoice}
 use Rattle.vd_given_choices.specs.declared.choices.Choice.{Choice}
-use Rattle.vd_indicating.specs.declared.forms.IndicatedForm.{IndicatedForm}
+use Rattle.vd_value_rules.specs.declared.forms.IndicatedForm.{IndicatedForm}
 use Rattle.vd_meaning.specs.Brackets.{choice_bounds}
 use Rattle.vd_meaning.specs.Facets.{Meaning, value_of}
 use Rattle.vd_meaning.specs.Meanings.{meanings}

@@ -7,7 +7,7 @@ ghost use Rattle.vd_environments.specs.Environments.{Env, Static};
 ghost use Rattle.vd_environments.specs.Got.{Got};
 ghost use Rattle.vd_forest.specs.Forest.{Forest, no_place, place_of as place_in};
 ghost use Rattle.vd_given_choices.specs.Choices.{AreChoices, IsChoice, range_to_itself};
-ghost use Rattle.vd_indicating.specs.declared.forms.IndicatedForm.{IndicatedForm};
+ghost use Rattle.vd_value_rules.specs.declared.forms.IndicatedForm.{IndicatedForm};
 ghost use Rattle.vd_known_designs.specs.Designs.{IsReady, Knows};
 ghost use Rattle.vd_meaning.specs.Brackets.{choice_bounds};
 ghost use Rattle.vd_meaning.specs.Facets.{Meaning};
@@ -25,12 +25,12 @@ use vd_bytes::Place;
 use vd_composites::{Bounds, Value};
 use vd_declarations::TypeId;
 use vd_forest::Cursor;
-use vd_indicating::StaticSort;
 use vd_known_designs::KnownDesign;
 use vd_known_indications::nodes;
 use vd_resolved::Resolved;
 use vd_static_entries::{Node, Ranging, Sense};
 use vd_static_values::position;
+use vd_value_rules::StaticSort;
 
 /// A choice.
 #[derive(Drop)]

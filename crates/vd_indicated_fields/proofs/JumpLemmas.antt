@@ -4,10 +4,10 @@ use Rattle.vd_bytes.specs.declared.places.Place.{Place}
 use Rattle.vd_forest.specs.Forest.{Forest, more, next_of, nothing, skipped}
 use Rattle.vd_forest.specs.Store.{Extends, at}
 use Rattle.vd_forest.proofs.ForestLemmas.{skipped_nothing, skipped_skipped}
-use Rattle.vd_indicating.proofs.FieldLemmas.{field_skipped}
-use Rattle.vd_indicating.specs.Indicated.{field_indicated, indicated_in}
-use Rattle.vd_indicating.specs.declared.forms.IndicatedForm.{IndicatedForm}
-use Rattle.vd_indicating.specs.declared.forms.IndicatedForm.TheVariants as form
+use Rattle.vd_value_rules.proofs.FieldLemmas.{field_skipped}
+use Rattle.vd_value_rules.specs.Indicated.{field_indicated, indicated_in}
+use Rattle.vd_value_rules.specs.declared.forms.IndicatedForm.{IndicatedForm}
+use Rattle.vd_value_rules.specs.declared.forms.IndicatedForm.TheVariants as form
 use Rattle.vd_indicated_fields.specs.Jumps.{AreJumps, IsJump, field_trees, no_jump}
 use Rattle.vd_indicated_fields.specs.declared.jumps.Jump.{Jump}
 

@@ -2,8 +2,8 @@
 use Rattle.std.specs.Prelude.{◌≡◌, ◌+◌, ◌<◌, ◌≤◌, List, length, slice_index_or, ℕ}
 use Rattle.vd_forest.specs.Forest.{Forest, more, nothing, skipped}
 use Rattle.vd_forest.specs.Store.{at}
-use Rattle.vd_indicating.specs.declared.forms.IndicatedForm.{IndicatedForm}
-use Rattle.vd_indicating.specs.declared.forms.IndicatedForm.TheVariants as form
+use Rattle.vd_value_rules.specs.declared.forms.IndicatedForm.{IndicatedForm}
+use Rattle.vd_value_rules.specs.declared.forms.IndicatedForm.TheVariants as form
 use Rattle.vd_indicated_fields.specs.declared.jumps.Jump.{Jump}
 
 -- a jump leads from the trees with a number over so many of them

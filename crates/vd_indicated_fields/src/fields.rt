@@ -3,14 +3,14 @@
 ghost use Rattle.std.specs.Prelude.{◌≡◌, ◌<◌, ◌≤◌, IfOk, List, OnOk, length};
 ghost use Rattle.vd_forest.specs.Forest.{Forest, skipped};
 ghost use Rattle.vd_forest.specs.Store.{at};
-ghost use Rattle.vd_indicating.specs.Indicated.{field_indicated, indicated_in};
-ghost use Rattle.vd_indicating.specs.declared.forms.IndicatedForm.{IndicatedForm as Form};
+ghost use Rattle.vd_value_rules.specs.Indicated.{field_indicated, indicated_in};
+ghost use Rattle.vd_value_rules.specs.declared.forms.IndicatedForm.{IndicatedForm as Form};
 ghost use Rattle.vd_indicated_fields.specs.Jumps.{AreJumps, field_trees};
 
 use crate::jumps::{Jump, jump_over, tree_jump};
 use std::alloc::{AllocError, Global};
 use vd_forest::Store;
-use vd_indicating::IndicatedForm;
+use vd_value_rules::IndicatedForm;
 
 /// Jumps over the trees of a store, by their numbers.
 #[derive(Drop)]

@@ -6,7 +6,7 @@ ghost use Rattle.vd_forest.specs.Store.{at};
 ghost use Rattle.vd_indicated_fields.specs.Jumps.{AreJumps, IsJump};
 
 use vd_forest::Store;
-use vd_indicating::IndicatedForm;
+use vd_value_rules::IndicatedForm;
 
 /// A way on in a list of trees: over so many trees, to those with a number.
 #[derive(Clone, Copy, Debug)]

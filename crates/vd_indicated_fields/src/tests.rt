@@ -8,8 +8,8 @@ use std::test::Fail;
 use vd_bytes::Place;
 use vd_composites::{Bounds, ScalarSubtype, ScalarType};
 use vd_forest::Store;
-use vd_indicating::subtypes::scalar;
-use vd_indicating::{IndicatedForm, StaticSort};
+use vd_value_rules::subtypes::scalar;
+use vd_value_rules::{IndicatedForm, StaticSort};
 
 /// The integers up to a bound.
 fn up_to(right: u32) -> IndicatedForm {

@@ -2,7 +2,7 @@
 
 ghost use Rattle.std.specs.Prelude.{◌≡◌, ◌&&◌, ◌∷◌, IfOk, List, OnOk, not, ℕ};
 ghost use Rattle.vd_environments.specs.Environments.{is_static as is_known_static};
-ghost use Rattle.vd_indicating.specs.Indicated.{static_of};
+ghost use Rattle.vd_value_rules.specs.Indicated.{static_of};
 ghost use Rattle.vd_instance_rules.specs.Instances.{IsInstance, design_at, port_map_at, read_association};
 ghost use Rattle.vd_known_designs.specs.Designs.{IsReady, Knows};
 ghost use Rattle.vd_port_associations.specs.Numbers.{Holds};
@@ -17,7 +17,6 @@ use crate::instance::Instance;
 use std::alloc::{AllocError, Global};
 use vd_declarations::DeclId;
 use vd_forest::Cursor;
-use vd_indicating::subtypes::scalar;
 use vd_known_designs::KnownDesign;
 use vd_known_indications::node;
 use vd_port_associations::associations::PortAssociation;
@@ -26,6 +25,7 @@ use vd_resolved::Resolved;
 use vd_rule_groups::{Firsts, nothing_refused};
 use vd_static_entries::Sense;
 use vd_trees::Revision;
+use vd_value_rules::subtypes::scalar;
 
 /// Whether a declaration has a scalar subtype.
 fn is_scalar(design: &KnownDesign<'_, '_>, number: DeclId) -> bool

@@ -3,7 +3,7 @@ use Rattle.std.proofs.Common.{◌≡◌, ◌≤◌, ◌<◌, ◌+◌, ◌∙◌,
 use Rattle.vd_environments.specs.Environments.{Env}
 use Rattle.vd_forest.specs.Forest.{Forest}
 use Rattle.vd_forest.specs.Store.{Extends}
-use Rattle.vd_indicating.specs.declared.forms.IndicatedForm.{IndicatedForm}
+use Rattle.vd_value_rules.specs.declared.forms.IndicatedForm.{IndicatedForm}
 use Rattle.vd_known_actuals.specs.Actuals.{AreActuals, IsActual, actual_at}
 use Rattle.vd_known_actuals.specs.Elements.{IsGiven}
 use Rattle.vd_known_actuals.specs.declared.actuals.Actual.{Actual}

@@ -4,7 +4,7 @@ use Rattle.std.specs.Global.{Global}
 use Rattle.std.specs.Prelude.{Err, IfOk, Ok, Result, Vec}
 use Rattle.vd_environments.specs.Environments.{Env}
 use Rattle.vd_forest.specs.Forest.{Forest}
-use Rattle.vd_indicating.specs.declared.forms.IndicatedForm.{IndicatedForm}
+use Rattle.vd_value_rules.specs.declared.forms.IndicatedForm.{IndicatedForm}
 use Rattle.vd_known_actuals.specs.Elements.{AreElements, IsElement, IsGiven, either, element_for, element_placed, formal_in, formal_of, given_by, naming, unless_named, unless_open}
 use Rattle.vd_known_tables.specs.Contents.{or_nothing}
 use Rattle.vd_meaning.specs.Facets.{Choice, MapElement, Meaning}

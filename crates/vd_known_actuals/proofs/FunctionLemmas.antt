@@ -2,10 +2,10 @@
 use Rattle.std.proofs.Common.{Bool, ◌≡◌, ◌∙◌, List, None, Option, Some, ap, false, if◌then◌else◌, refl, subst, sym, true, ℕ}
 use Rattle.vd_environments.specs.Environments.{Env, Static}
 use Rattle.vd_forest.specs.Forest.{Forest}
-use Rattle.vd_indicating.specs.Indicated.{static_of}
-use Rattle.vd_indicating.specs.declared.forms.IndicatedForm.{IndicatedForm}
-use Rattle.vd_indicating.specs.declared.statics.StaticSort.{StaticSort}
-use Rattle.vd_indicating.specs.Made.{Indicates}
+use Rattle.vd_value_rules.specs.Indicated.{static_of}
+use Rattle.vd_value_rules.specs.declared.forms.IndicatedForm.{IndicatedForm}
+use Rattle.vd_value_rules.specs.declared.statics.StaticSort.{StaticSort}
+use Rattle.vd_value_rules.specs.Made.{Indicates}
 use Rattle.vd_known_actuals.specs.Actuals.{IsCalled, result_mark, results_of}
 use Rattle.vd_known_designs.specs.Designs.{AreIndicated}
 use Rattle.vd_known_designs.specs.declared.indications.TwoSubtypes.{TwoSubtypes}

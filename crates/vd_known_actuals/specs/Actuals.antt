@@ -2,8 +2,8 @@
 use Rattle.std.specs.Prelude.{◌≡◌, ◌∷◌, List, Option, Some, [], if◌then◌else◌, true, ℕ}
 use Rattle.vd_environments.specs.Environments.{Function, Static}
 use Rattle.vd_forest.specs.Forest.{Forest}
-use Rattle.vd_indicating.specs.Indicated.{static_of}
-use Rattle.vd_indicating.specs.declared.forms.IndicatedForm.{IndicatedForm}
+use Rattle.vd_value_rules.specs.Indicated.{static_of}
+use Rattle.vd_value_rules.specs.declared.forms.IndicatedForm.{IndicatedForm}
 use Rattle.vd_known_actuals.specs.Elements.{IsGiven}
 use Rattle.vd_known_actuals.specs.declared.actuals.Actual.{Actual}
 use Rattle.vd_known_actuals.specs.declared.functions.ActualFunction.{ActualFunction}

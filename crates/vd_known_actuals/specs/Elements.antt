@@ -4,7 +4,7 @@ use Rattle.std.specs.List.{find}
 use Rattle.vd_composites.specs.Subtypes.{Subtype}
 use Rattle.vd_environments.specs.Environments.{Argument, Env, Static}
 use Rattle.vd_environments.specs.Got.{Got}
-use Rattle.vd_indicating.specs.Indicated.{static_of}
+use Rattle.vd_value_rules.specs.Indicated.{static_of}
 use Rattle.vd_known_actuals.specs.declared.elements.Given.{Given}
 use Rattle.vd_meaning.specs.Facets.{MapElement}
 use Rattle.vd_meaning.specs.Tables.{same_type}

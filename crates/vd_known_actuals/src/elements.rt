@@ -7,9 +7,9 @@ ghost use Rattle.vd_meaning.specs.Tables.{same_type};
 use std::alloc::{AllocError, Global};
 use vd_composites::Value;
 use vd_declarations::DeclId;
-use vd_indicating::StaticSort;
 use vd_static_entries::{Association, Node, Sense};
 use vd_static_names::copies::value_again;
+use vd_value_rules::StaticSort;
 
 /// What a map gives for a generic that is a constant.
 #[derive(Drop)]

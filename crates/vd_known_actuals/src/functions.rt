@@ -1,7 +1,7 @@
 //! Functions and types that generics stand for. (IEEE 1076, generic map aspects; function calls; static expressions)
 
 ghost use Rattle.std.specs.Prelude.{◌≡◌, ◌∷◌, List, slice_index_or, true};
-ghost use Rattle.vd_indicating.specs.Indicated.{static_of};
+ghost use Rattle.vd_value_rules.specs.Indicated.{static_of};
 ghost use Rattle.vd_known_actuals.specs.Actuals.{IsCalled, result_mark as mark_of_result, results_of};
 ghost use Rattle.vd_known_designs.specs.Designs.{Knows};
 ghost use Rattle.vd_meaning.specs.Names.{calls_known as known_of_calls};
@@ -14,11 +14,11 @@ ghost use Rattle.vd_value_rules.specs.Designs.{Design};
 ghost use Rattle.vd_value_rules.specs.Knowledge.{Known};
 
 use vd_declarations::{Class, DeclId, Declaration};
-use vd_indicating::StaticSort;
 use vd_known_designs::{KnownDesign, TwoSubtypes};
 use vd_operations::tables::{class_of, followed, is_predefined, mark_of};
 use vd_static_names::calls::calls_known;
 use vd_trees::Revision;
+use vd_value_rules::StaticSort;
 
 /// A function that a generic stands for.
 #[derive(Clone, Copy, Debug)]

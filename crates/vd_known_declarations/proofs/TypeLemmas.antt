@@ -2,7 +2,7 @@
 use Rattle.std.proofs.Common.{◌≡◌, ◌∷◌, List, subst, ℕ}
 use Rattle.std.specs.Prelude.{Err, Ok, OnOk, Result}
 use Rattle.vd_forest.specs.Store.{Extends}
-use Rattle.vd_indicating.specs.Made.{Indicates}
+use Rattle.vd_value_rules.specs.Made.{Indicates}
 use Rattle.vd_known_designs.proofs.DesignLemmas.{knows_grown}
 use Rattle.vd_known_designs.specs.Designs.{AreIndicated, Knows}
 use Rattle.vd_known_designs.specs.declared.design.KnownDesign.{KnownDesign}

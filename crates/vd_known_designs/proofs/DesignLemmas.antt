@@ -4,9 +4,9 @@ use Rattle.std.specs.Prelude.{Err, Ok, OnOk, Option, Result, Some}
 use Rattle.vd_environments.specs.Environments.{Env}
 use Rattle.vd_forest.specs.Forest.{Forest}
 use Rattle.vd_forest.specs.Store.{Extends}
-use Rattle.vd_indicating.specs.declared.forms.IndicatedForm.{IndicatedForm}
+use Rattle.vd_value_rules.specs.declared.forms.IndicatedForm.{IndicatedForm}
 use Rattle.vd_indicated_fields.proofs.JumpLemmas.{jumps_kept}
-use Rattle.vd_indicating.specs.Made.{Indicates}
+use Rattle.vd_value_rules.specs.Made.{Indicates}
 use Rattle.vd_known_designs.specs.Designs.{AreIndicated, IsReady, Knows}
 use Rattle.vd_known_designs.specs.declared.design.KnownDesign.{KnownDesign}
 use Rattle.vd_known_designs.specs.declared.indications.TwoSubtypes.{TwoSubtypes}

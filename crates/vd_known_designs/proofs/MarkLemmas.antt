@@ -5,8 +5,8 @@ use Rattle.std.proofs.lemmas.Bool.Decides.{nat_tests}
 use Rattle.vd_environments.specs.Environments.{Denotation, Indicated, nothing_denoted, with_entry}
 use Rattle.vd_forest.specs.Forest.{Forest}
 use Rattle.vd_forest.specs.Store.{Extends}
-use Rattle.vd_indicating.specs.Indicated.{texts_in}
-use Rattle.vd_indicating.specs.declared.forms.IndicatedForm.{IndicatedForm}
+use Rattle.vd_value_rules.specs.Indicated.{texts_in}
+use Rattle.vd_value_rules.specs.declared.forms.IndicatedForm.{IndicatedForm}
 use Rattle.vd_known_designs.specs.Marks.{HasTexts, mark_of, marks_known}
 use Rattle.vd_known_designs.specs.declared.marks.Mark.{Mark}
 use Rattle.vd_known_tables.specs.Known.{none_known}

@@ -1,9 +1,9 @@
 -- What is known of a design at a place, in memory.
 use Rattle.std.specs.Prelude.{◌≡◌, ◌∷◌, List}
 use Rattle.vd_forest.specs.Forest.{Forest}
-use Rattle.vd_indicating.specs.declared.forms.IndicatedForm.{IndicatedForm}
+use Rattle.vd_value_rules.specs.declared.forms.IndicatedForm.{IndicatedForm}
 use Rattle.vd_indicated_fields.specs.Jumps.{AreJumps}
-use Rattle.vd_indicating.specs.Made.{Indicates}
+use Rattle.vd_value_rules.specs.Made.{Indicates}
 use Rattle.vd_known_designs.specs.declared.design.KnownDesign.{KnownDesign}
 use Rattle.vd_known_designs.specs.declared.indications.TwoSubtypes.{TwoSubtypes}
 use Rattle.vd_known_tables.specs.Known.{AreKnown}

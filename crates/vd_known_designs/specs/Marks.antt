@@ -4,8 +4,8 @@ use Rattle.vd_environments.specs.Environments.{Env, Indicated}
 use Rattle.vd_forest.specs.Forest.{Forest}
 use Rattle.vd_forest.specs.Store.{at}
 use Rattle.vd_given.specs.Table.{characters}
-use Rattle.vd_indicating.specs.Indicated.{texts_in}
-use Rattle.vd_indicating.specs.declared.forms.IndicatedForm.{IndicatedForm}
+use Rattle.vd_value_rules.specs.Indicated.{texts_in}
+use Rattle.vd_value_rules.specs.declared.forms.IndicatedForm.{IndicatedForm}
 use Rattle.vd_known_designs.specs.declared.literals.Literals.{Literals}
 use Rattle.vd_known_designs.specs.declared.literals.Literals.TheVariants as literals
 use Rattle.vd_known_designs.specs.declared.literals.LiteralLists.{LiteralLists}

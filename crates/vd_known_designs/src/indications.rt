@@ -2,8 +2,8 @@
 
 ghost use Rattle.std.specs.Prelude.{◌≡◌, ◌≤◌, ◌∷◌, IfOk, List, OnOk, false, length, true};
 ghost use Rattle.vd_forest.specs.Store.{Extends};
-ghost use Rattle.vd_indicating.specs.Indicated.{static_of, indicated_in};
-ghost use Rattle.vd_indicating.specs.Made.{narrowed_for};
+ghost use Rattle.vd_value_rules.specs.Indicated.{static_of, indicated_in};
+ghost use Rattle.vd_value_rules.specs.Made.{narrowed_for};
 ghost use Rattle.vd_forest.specs.Store.{at};
 ghost use Rattle.vd_known_designs.specs.Designs.{AreIndicated, Knows};
 ghost use Rattle.vd_value_rules.specs.Designs.{Design};
@@ -13,7 +13,7 @@ use crate::design::KnownDesign;
 use std::alloc::AllocError;
 use vd_composites::Bounds;
 use vd_declarations::DeclId;
-use vd_indicating::StaticSort;
+use vd_value_rules::StaticSort;
 
 /// A subtype as it is, and as it is for choices, by the numbers in the store.
 #[derive(Clone, Copy, Debug)]

@@ -3,7 +3,7 @@
 ghost use Rattle.std.specs.Prelude.{IfOk, List, map};
 ghost use Rattle.vd_forest.specs.Forest.{Forest};
 ghost use Rattle.vd_forest.specs.Store.{Extends};
-ghost use Rattle.vd_indicating.specs.declared.forms.IndicatedForm.{IndicatedForm as Form};
+ghost use Rattle.vd_value_rules.specs.declared.forms.IndicatedForm.{IndicatedForm as Form};
 ghost use Rattle.vd_known_designs.specs.Marks.{HasLiterals, HasTexts, literals_of};
 
 use std::alloc::AllocError;

@@ -3,7 +3,7 @@
 ghost use Rattle.std.specs.Prelude.{◌≡◌, ◌∷◌, [], IfOk, List, OnOk, map, ℕ};
 ghost use Rattle.vd_environments.specs.Environments.{Indicated};
 ghost use Rattle.vd_forest.specs.Store.{Extends};
-ghost use Rattle.vd_indicating.specs.Made.{Indicates};
+ghost use Rattle.vd_value_rules.specs.Made.{Indicates};
 ghost use Rattle.vd_known_designs.specs.Marks.{HasLiterals, indicated_by, mark_of, marks_known};
 ghost use Rattle.vd_known_tables.specs.Known.{AreKnown};
 ghost use Rattle.vd_meaning.specs.Given.{marks as given_marks};
@@ -16,9 +16,9 @@ use crate::marks::Sort::*;
 use std::alloc::{AllocError, Global};
 use vd_composites::{Bounds, ScalarSubtype, ScalarType};
 use vd_given::numbers::*;
-use vd_indicating::StaticSort;
 use vd_known_tables::KnownTable;
 use vd_subtype_tables::SubtypeTables;
+use vd_value_rules::StaticSort;
 
 /// What a mark stands for.
 #[derive(Clone, Copy)]

@@ -10,8 +10,8 @@ use Rattle.vd_bytes.specs.declared.places.Place.{Place}
 use Rattle.vd_meaning.specs.NodeFacets.{View}
 use Rattle.vd_meaning.specs.Instances.{view_in}
 use Rattle.vd_forest.specs.Forest.{Forest, more, nothing, skipped}
-use Rattle.vd_indicating.specs.Indicated.{static_of}
-use Rattle.vd_indicating.specs.declared.forms.IndicatedForm.{IndicatedForm}
+use Rattle.vd_value_rules.specs.Indicated.{static_of}
+use Rattle.vd_value_rules.specs.declared.forms.IndicatedForm.{IndicatedForm}
 use Rattle.vd_indicated_fields.specs.Jumps.{AreJumps}
 use Rattle.vd_known_designs.specs.Designs.{IsReady, Knows}
 use Rattle.vd_known_designs.specs.declared.design.KnownDesign.{KnownDesign}

@@ -11,10 +11,10 @@ use crate::objects::later_declared;
 use std::alloc::{AllocError, Global};
 use vd_facets::{declaration_of, is_present, number_made};
 use vd_forest::Cursor;
-use vd_indicating::StaticSort;
 use vd_known_designs::KnownDesign;
 use vd_known_functions::{function_known, result_known};
 use vd_resolved::Resolved;
+use vd_value_rules::StaticSort;
 
 /// The parameters of a function, one after the other.
 fn parameters_known(

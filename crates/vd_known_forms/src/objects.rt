@@ -2,7 +2,7 @@
 
 ghost use Rattle.std.specs.Prelude.{◌≡◌, ◌∷◌, IfOk, List, OnOk, false};
 ghost use Rattle.vd_forest.specs.Store.{Extends};
-ghost use Rattle.vd_indicating.specs.Indicated.{static_of};
+ghost use Rattle.vd_value_rules.specs.Indicated.{static_of};
 ghost use Rattle.vd_known_designs.specs.Designs.{AreIndicated, IsReady, Knows};
 ghost use Rattle.vd_known_forms.specs.Views.{HasViews};
 ghost use Rattle.vd_resolved.specs.declared.node.Resolved.{Resolved as AnyNode};
@@ -15,13 +15,13 @@ use vd_declarations::DeclId;
 use vd_facets::{declaration_of, is_present};
 use vd_forest::Cursor;
 use vd_function_names::numbers::numbers_of_first;
-use vd_indicating::StaticSort;
 use vd_known_designs::{KnownDesign, TwoSubtypes};
 use vd_known_indications::{indicated_twice, node};
 use vd_known_objects::constants::{constants, early_value};
 use vd_known_objects::objects::{later_objects, signals};
 use vd_port_modes::Interfaces;
 use vd_resolved::Resolved;
+use vd_value_rules::StaticSort;
 
 /// What objects that are declared together have in common: their numbers, and their subtype.
 #[derive(Drop)]

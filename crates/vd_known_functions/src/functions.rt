@@ -12,10 +12,10 @@ use vd_composites::Value;
 use vd_declarations::DeclId;
 use vd_facets::{declaration_of, number_made};
 use vd_forest::Cursor;
-use vd_indicating::StaticSort;
 use vd_known_designs::KnownDesign;
 use vd_resolved::Resolved;
 use vd_static_entries::Entry;
+use vd_value_rules::StaticSort;
 use vd_values::Scalar;
 
 /// A function with a result of the subtype that a mark names. What its calls give isn't known when the text is analysed.

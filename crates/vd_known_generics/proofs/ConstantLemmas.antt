@@ -6,8 +6,8 @@ use Rattle.vd_composites.specs.Subtypes.{Subtype}
 use Rattle.vd_environments.specs.Environments.{Argument, Static}
 use Rattle.vd_environments.specs.Got.{Got}
 use Rattle.vd_forest.specs.Forest.{Forest}
-use Rattle.vd_indicating.specs.Indicated.{static_of}
-use Rattle.vd_indicating.specs.declared.forms.IndicatedForm.{IndicatedForm}
+use Rattle.vd_value_rules.specs.Indicated.{static_of}
+use Rattle.vd_value_rules.specs.declared.forms.IndicatedForm.{IndicatedForm}
 use Rattle.vd_known_actuals.specs.Elements.{IsGiven}
 use Rattle.vd_known_actuals.specs.declared.elements.Given.{Given}
 use Rattle.vd_known_designs.specs.Designs.{Knows}
@@ -19,7 +19,7 @@ use Rattle.vd_static_entries.specs.declared.senses.Sense.{Sense}
 use Rattle.vd_value_rules.specs.Declaring.{from_actual, static_of_actual}
 use Rattle.vd_value_rules.specs.Designs.{Design}
 use Rattle.vd_value_rules.specs.Knowledge.{Known, TwoIndicated, constant_of, early_value}
-use Rattle.vd_indicating.specs.declared.statics.StaticSort.{StaticSort}
+use Rattle.vd_value_rules.specs.declared.statics.StaticSort.{StaticSort}
 use Rattle.vd_values.specs.declared.scalar.Scalar.{Scalar}
 
 module _ {A E : Type 0} (r : Result A E) (d : Design) (y : KnownDesign) (m : Meaning) (i : TwoIndicated) (n : ℕ) (k : Known) (ks : List Known) where

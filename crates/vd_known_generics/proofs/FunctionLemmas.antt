@@ -5,11 +5,11 @@ use Rattle.vd_composites.specs.Composites.{One, Value}
 use Rattle.vd_environments.specs.Environments.{Denotation, Function, Static, all_bounds, never}
 use Rattle.vd_forest.specs.Forest.{Forest}
 use Rattle.vd_forest.specs.Store.{at}
-use Rattle.vd_indicating.specs.Indicated.{indicated_in, static_of}
-use Rattle.vd_indicating.specs.declared.forms.IndicatedForm.{IndicatedForm}
-use Rattle.vd_indicating.specs.declared.statics.StaticSort.{StaticSort}
+use Rattle.vd_value_rules.specs.Indicated.{indicated_in, static_of}
+use Rattle.vd_value_rules.specs.declared.forms.IndicatedForm.{IndicatedForm}
+use Rattle.vd_value_rules.specs.declared.statics.StaticSort.{StaticSort}
 use Rattle.vd_indicated_fields.specs.Jumps.{AreJumps}
-use Rattle.vd_indicating.specs.Made.{Indicates}
+use Rattle.vd_value_rules.specs.Made.{Indicates}
 use Rattle.vd_known_actuals.specs.Actuals.{IsCalled, results_of}
 use Rattle.vd_known_actuals.specs.declared.functions.ActualFunction.{ActualFunction}
 use Rattle.vd_known_designs.specs.Designs.{Knows}

@@ -7,7 +7,7 @@ use Rattle.vd_facets.proofs.PassingLemmas.{nth_skipped}
 use Rattle.vd_forest.specs.Forest.{Forest, more, skipped}
 use Rattle.vd_forest.proofs.StoreLemmas.{extends_same}
 use Rattle.vd_forest.specs.Store.{Extends}
-use Rattle.vd_indicating.specs.declared.forms.IndicatedForm.{IndicatedForm}
+use Rattle.vd_value_rules.specs.declared.forms.IndicatedForm.{IndicatedForm}
 use Rattle.vd_indicated_fields.specs.Jumps.{AreJumps}
 use Rattle.vd_known_actuals.specs.Actuals.{AreActuals}
 use Rattle.vd_known_actuals.specs.declared.actuals.Actual.{Actual}

@@ -5,8 +5,8 @@ use Rattle.vd_forest.specs.Forest.{Forest, more}
 use Rattle.vd_forest.specs.Store.{Extends, at}
 use Rattle.vd_forms.specs.declared.form.Form.{Form}
 use Rattle.vd_forms.specs.declared.form.Form.TheVariants as form
-use Rattle.vd_indicating.specs.Indicated.{indicated_in}
-use Rattle.vd_indicating.specs.declared.forms.IndicatedForm.{IndicatedForm}
+use Rattle.vd_value_rules.specs.Indicated.{indicated_in}
+use Rattle.vd_value_rules.specs.declared.forms.IndicatedForm.{IndicatedForm}
 use Rattle.vd_known_actuals.proofs.ActualLemmas.{actuals_grown}
 use Rattle.vd_known_actuals.specs.Actuals.{AreActuals, IsActual}
 use Rattle.vd_known_actuals.specs.declared.actuals.Actual.{Actual}

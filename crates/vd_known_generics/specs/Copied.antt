@@ -1,8 +1,8 @@
 -- What an instance declares, as it is copied where its generics stand for the actuals.
 use Rattle.std.specs.Prelude.{◌≡◌, ◌∷◌, List, None, Option, Some, [], ℕ}
 use Rattle.vd_forest.specs.Forest.{Forest}
-use Rattle.vd_indicating.specs.declared.forms.IndicatedForm.{IndicatedForm}
-use Rattle.vd_indicating.specs.Made.{Indicates}
+use Rattle.vd_value_rules.specs.declared.forms.IndicatedForm.{IndicatedForm}
+use Rattle.vd_value_rules.specs.Made.{Indicates}
 use Rattle.vd_known_generics.specs.declared.copies.Copied.{Copied}
 use Rattle.vd_meaning.specs.Tables.{Table}
 use Rattle.vd_static_entries.specs.Entries.{IsEntry, no_entry}

@@ -5,7 +5,7 @@ ghost use Rattle.vd_composites.specs.Subtypes.{Subtype};
 ghost use Rattle.vd_environments.specs.Environments.{Argument};
 ghost use Rattle.vd_environments.specs.Got.{Got};
 ghost use Rattle.vd_forest.specs.Store.{Extends};
-ghost use Rattle.vd_indicating.specs.Indicated.{static_of};
+ghost use Rattle.vd_value_rules.specs.Indicated.{static_of};
 ghost use Rattle.vd_known_actuals.specs.Actuals.{IsActual};
 ghost use Rattle.vd_known_designs.specs.Designs.{AreIndicated, IsReady, Knows};
 ghost use Rattle.vd_known_generics.specs.Standing.{CanStand, Stands};
@@ -22,12 +22,12 @@ use vd_composites::Value;
 use vd_declarations::DeclId;
 use vd_forest::Cursor;
 use vd_function_names::numbers::numbers_of_first;
-use vd_indicating::StaticSort;
 use vd_known_actuals::Actual;
 use vd_known_designs::{KnownDesign, TwoSubtypes};
 use vd_known_indications::{indicated_twice, node};
 use vd_known_objects::constants::{constants, early_value};
 use vd_resolved::Resolved;
+use vd_value_rules::StaticSort;
 
 /// A constant whose actual or default is so static and has this value.
 fn constant_set(

@@ -11,9 +11,9 @@ ghost use Rattle.vd_value_rules.specs.Knowledge.{Known};
 use std::alloc::{AllocError, Global};
 use vd_composites::Value;
 use vd_declarations::DeclId;
-use vd_indicating::StaticSort;
 use vd_known_designs::KnownDesign;
 use vd_static_entries::Entry;
+use vd_value_rules::StaticSort;
 use vd_values::Scalar;
 
 /// What something stands for, for a declaration of an instance.

@@ -22,13 +22,13 @@ use vd_declarations::DeclId;
 use vd_facets::{declaration_of, elements_of, number_made};
 use vd_forest::Cursor;
 use vd_function_names::numbers::numbers_of_first;
-use vd_indicating::StaticSort;
 use vd_known_actuals::{ActualFunction, actuals_known};
 use vd_known_designs::{KnownDesign, TwoSubtypes};
 use vd_known_indications::indicated_twice;
 use vd_known_objects::objects::later_objects;
 use vd_operations::tables::parameters_of;
 use vd_resolved::Resolved;
+use vd_value_rules::StaticSort;
 
 /// Generics with these texts stand for the actuals of an instance, whose map has these elements, if there is one.
 pub fn generics_stand(

@@ -4,11 +4,11 @@ use Rattle.std.specs.Prelude.{Err, IfOk, None, Ok, Option, Result, Some}
 use Rattle.vd_environments.specs.Environments.{Env, Indicated}
 use Rattle.vd_forest.specs.Forest.{Forest}
 use Rattle.vd_forest.specs.Store.{at}
-use Rattle.vd_indicating.specs.Indicated.{indicated_in, static_of}
-use Rattle.vd_indicating.specs.declared.forms.IndicatedForm.{IndicatedForm}
-use Rattle.vd_indicating.proofs.FoundLemmas.{constrained_by_found}
-use Rattle.vd_indicating.specs.Found.{found}
-use Rattle.vd_indicating.specs.Made.{Indicates, narrowed_for}
+use Rattle.vd_value_rules.specs.Indicated.{indicated_in, static_of}
+use Rattle.vd_value_rules.specs.declared.forms.IndicatedForm.{IndicatedForm}
+use Rattle.vd_value_rules.proofs.FoundLemmas.{constrained_by_found}
+use Rattle.vd_value_rules.specs.Found.{found}
+use Rattle.vd_value_rules.specs.Made.{Indicates, narrowed_for}
 use Rattle.vd_known_designs.specs.Designs.{AreIndicated}
 use Rattle.vd_known_designs.specs.declared.indications.TwoSubtypes.{TwoSubtypes}
 use Rattle.vd_known_indications.specs.Constraints.{IsConstraint, IsConstraintIn}

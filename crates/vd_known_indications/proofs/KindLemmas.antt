@@ -3,7 +3,7 @@ use Rattle.std.proofs.Common.{◌≡◌, List, [], false, refl, subst, true, ℕ
 use Rattle.std.specs.Prelude.{Err, IfOk, Ok, Result}
 use Rattle.vd_environments.specs.Environments.{Env}
 use Rattle.vd_forest.specs.Forest.{Forest}
-use Rattle.vd_indicating.specs.declared.forms.IndicatedForm.{IndicatedForm}
+use Rattle.vd_value_rules.specs.declared.forms.IndicatedForm.{IndicatedForm}
 use Rattle.vd_meaning.specs.Facets.{Meaning, no_meaning, of_node}
 use Rattle.vd_meaning.specs.Kinds
 use Rattle.vd_meaning.specs.Meanings.{meaning_of}

@@ -7,7 +7,7 @@ use Rattle.vd_bottom_up.specs.Trees.{AreTrees}
 use Rattle.vd_bytes.specs.declared.places.Place.{Place}
 use Rattle.vd_environments.specs.Environments.{Env}
 use Rattle.vd_forest.specs.Forest.{Forest, more, nothing}
-use Rattle.vd_indicating.specs.declared.forms.IndicatedForm.{IndicatedForm}
+use Rattle.vd_value_rules.specs.declared.forms.IndicatedForm.{IndicatedForm}
 use Rattle.vd_indicated_fields.specs.Jumps.{AreJumps}
 use Rattle.vd_indicated_fields.specs.declared.jumps.Jump.{Jump}
 use Rattle.vd_meaning.specs.Facets.{no_meaning}

@@ -1,8 +1,8 @@
 -- Constraints of subtype indications, as they are known when the text is analysed.
 use Rattle.std.specs.Prelude.{◌≡◌, None, Option, Some, false, true}
 use Rattle.vd_environments.specs.Environments.{Env}
-use Rattle.vd_indicating.specs.Indicated.{static_of}
-use Rattle.vd_indicating.specs.Found.{found}
+use Rattle.vd_value_rules.specs.Indicated.{static_of}
+use Rattle.vd_value_rules.specs.Found.{found}
 use Rattle.vd_known_indications.specs.declared.indications.Constraint.{Constraint}
 use Rattle.vd_meaning.specs.Facets.{Meaning}
 use Rattle.vd_value_rules.specs.Knowledge.{early_range}

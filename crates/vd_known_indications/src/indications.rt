@@ -4,8 +4,8 @@ ghost use Rattle.std.specs.Prelude.{◌≡◌, ◌∷◌, IfOk, List, OnOk};
 ghost use Rattle.vd_environments.specs.Environments.{Env};
 ghost use Rattle.vd_forest.specs.Forest.{Forest};
 ghost use Rattle.vd_forest.specs.Store.{Extends};
-ghost use Rattle.vd_indicating.specs.declared.forms.IndicatedForm.{IndicatedForm};
-ghost use Rattle.vd_indicating.specs.Found.{found};
+ghost use Rattle.vd_value_rules.specs.declared.forms.IndicatedForm.{IndicatedForm};
+ghost use Rattle.vd_value_rules.specs.Found.{found};
 ghost use Rattle.vd_known_designs.specs.Designs.{AreIndicated, IsReady, Knows};
 ghost use Rattle.vd_known_indications.specs.Constraints.{IsConstraintIn};
 ghost use Rattle.vd_meaning.specs.Facets.{Meaning, nth};
@@ -19,10 +19,10 @@ use std::alloc::{AllocError, Global};
 use vd_composites::Bounds;
 use vd_declarations::DeclId;
 use vd_forest::Cursor;
-use vd_indicating::StaticSort;
 use vd_known_designs::{KnownDesign, TwoSubtypes};
 use vd_resolved::Resolved;
 use vd_static_entries::{Node, Ranging, Sense};
+use vd_value_rules::StaticSort;
 
 /// A constraint: its range, where that is locally static and doesn't stop, and how static it is.
 #[derive(Clone, Copy, Debug)]

@@ -4,7 +4,7 @@ use Rattle.vd_composites.specs.Composites.{Value, bounds_of}
 use Rattle.vd_composites.specs.Subtypes.{default_of}
 use Rattle.vd_environments.specs.Environments.{Env, Indicated, Static}
 use Rattle.vd_environments.specs.Got.{Got}
-use Rattle.vd_indicating.specs.Indicated.{static_of}
+use Rattle.vd_value_rules.specs.Indicated.{static_of}
 use Rattle.vd_known_designs.specs.Designs.{AreIndicated, Knows}
 use Rattle.vd_known_designs.specs.declared.design.KnownDesign.{KnownDesign}
 use Rattle.vd_known_designs.specs.declared.indications.TwoSubtypes.{TwoSubtypes}

@@ -6,8 +6,8 @@ ghost use Rattle.vd_composites.specs.Subtypes.{Subtype};
 ghost use Rattle.vd_environments.specs.Environments.{Argument, Indicated};
 ghost use Rattle.vd_environments.specs.Got.{Got};
 ghost use Rattle.vd_forest.specs.Store.{Extends, at};
-ghost use Rattle.vd_indicating.specs.Indicated.{indicated_in, static_of};
-ghost use Rattle.vd_indicating.specs.Made.{Indicates};
+ghost use Rattle.vd_value_rules.specs.Indicated.{indicated_in, static_of};
+ghost use Rattle.vd_value_rules.specs.Made.{Indicates};
 ghost use Rattle.vd_known_designs.specs.Designs.{AreIndicated, Knows};
 ghost use Rattle.vd_known_objects.specs.Objects.{AreFacts};
 ghost use Rattle.vd_meaning.specs.Declarations.{constant_known as known_as_constant};
@@ -19,12 +19,12 @@ ghost use Rattle.vd_values.specs.declared.scalar.Scalar.{Scalar as AnyScalar};
 use std::alloc::{AllocError, Global};
 use vd_composites::{Bounds, Value};
 use vd_declarations::DeclId;
-use vd_indicating::StaticSort;
-use vd_indicating::subtypes::has_bounds;
 use vd_known_designs::{KnownDesign, TwoSubtypes};
 use vd_known_tables::shapes::default_shape;
 use vd_static_names::copies::value_again;
 use vd_static_values::fit;
+use vd_value_rules::StaticSort;
+use vd_value_rules::subtypes::has_bounds;
 
 /// What is known of constants beside their value.
 #[derive(Clone, Copy)]

@@ -2,15 +2,15 @@
 
 ghost use Rattle.std.specs.Prelude.{◌≡◌, ◌≤◌, OnOk, false, length};
 ghost use Rattle.vd_forest.specs.Store.{Extends};
-ghost use Rattle.vd_indicating.specs.Indicated.{static_of};
+ghost use Rattle.vd_value_rules.specs.Indicated.{static_of};
 ghost use Rattle.vd_known_objects.specs.Objects.{DeclaresObjects};
 ghost use Rattle.vd_value_rules.specs.Knowledge.{later_objects as objects_later, signals_known};
 
 use std::alloc::AllocError;
 use vd_declarations::DeclId;
-use vd_indicating::StaticSort;
 use vd_known_designs::{KnownDesign, TwoSubtypes};
 use vd_known_tables::shapes::default_shape;
+use vd_value_rules::StaticSort;
 
 /// Objects whose values aren't known when the text is analysed: variables, parameters, generics where they stand for no actuals.
 pub fn later_objects(

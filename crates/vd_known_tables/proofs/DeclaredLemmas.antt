@@ -3,9 +3,9 @@ use Rattle.std.proofs.Common.{◌≡◌, ◌==◌, Bool, List, [], ap, arith, co
 use Rattle.vd_environments.specs.Environments.{Denotation, Indicated, nothing_denoted, with_entry}
 use Rattle.vd_forest.specs.Forest.{Forest}
 use Rattle.vd_forest.specs.Store.{Extends, at}
-use Rattle.vd_indicating.specs.Indicated.{indicated_in}
-use Rattle.vd_indicating.specs.declared.forms.IndicatedForm.{IndicatedForm}
-use Rattle.vd_indicating.specs.Made.{Indicates}
+use Rattle.vd_value_rules.specs.Indicated.{indicated_in}
+use Rattle.vd_value_rules.specs.declared.forms.IndicatedForm.{IndicatedForm}
+use Rattle.vd_value_rules.specs.Made.{Indicates}
 use Rattle.vd_known_tables.specs.Contents.{Content, no_content, with_denoted, with_function_text, with_package_text, with_surroundings}
 use Rattle.vd_known_tables.specs.Known.{IsKnown, none_known, with_result}
 use Rattle.vd_meaning.specs.Tables.{Table}

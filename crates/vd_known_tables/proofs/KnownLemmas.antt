@@ -5,9 +5,9 @@ use Rattle.std.proofs.lemmas.List.{length-append, reverse-append}
 use Rattle.vd_environments.specs.Environments.{Denotation, Indicated}
 use Rattle.vd_forest.specs.Forest.{Forest}
 use Rattle.vd_forest.specs.Store.{Extends}
-use Rattle.vd_indicating.specs.Indicated.{indicated_in}
-use Rattle.vd_indicating.specs.declared.forms.IndicatedForm.{IndicatedForm}
-use Rattle.vd_indicating.specs.Made.{Indicates}
+use Rattle.vd_value_rules.specs.Indicated.{indicated_in}
+use Rattle.vd_value_rules.specs.declared.forms.IndicatedForm.{IndicatedForm}
+use Rattle.vd_value_rules.specs.Made.{Indicates}
 use Rattle.vd_known_tables.specs.Contents.{AreRestorable, Content, Replaces, content_of, lengths_of, no_content, undone}
 use Rattle.vd_known_tables.specs.Known.{AreKnown, CanGoBack, GoesBack, HasKnown, IsKnown, WereKnown, content_at, none_known}
 use Rattle.vd_known_tables.specs.declared.contents.Contents.{Contents}

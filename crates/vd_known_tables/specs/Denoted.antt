@@ -2,7 +2,7 @@
 use Rattle.std.specs.Prelude.{Bool, Some}
 use Rattle.vd_composites.specs.Composites.{Value}
 use Rattle.vd_environments.specs.Environments.{Denotation, Indicated, Static, nothing_denoted}
-use Rattle.vd_indicating.specs.Made.{object_of}
+use Rattle.vd_value_rules.specs.Made.{object_of}
 use Rattle.vd_subtype_tables.specs.Tables.{declared_in}
 use Rattle.vd_value_rules.specs.Knowledge.{shaped_signals}
 use Rattle.vd_values.specs.declared.scalar.Scalar.{Scalar}

@@ -4,9 +4,9 @@ use Rattle.vd_composites.specs.Subtypes.{Subtype}
 use Rattle.vd_environments.specs.Environments.{Env, nothing_denoted}
 use Rattle.vd_forest.specs.Forest.{Forest}
 use Rattle.vd_forest.specs.Store.{at}
-use Rattle.vd_indicating.specs.Indicated.{indicated_in}
-use Rattle.vd_indicating.specs.declared.forms.IndicatedForm.{IndicatedForm}
-use Rattle.vd_indicating.specs.Made.{Indicates}
+use Rattle.vd_value_rules.specs.Indicated.{indicated_in}
+use Rattle.vd_value_rules.specs.declared.forms.IndicatedForm.{IndicatedForm}
+use Rattle.vd_value_rules.specs.Made.{Indicates}
 use Rattle.vd_known_tables.specs.Contents.{AreRestorable, Content, content_of, lengths_of, undone}
 use Rattle.vd_known_tables.specs.declared.contents.Contents.{Contents}
 use Rattle.vd_known_tables.specs.declared.contents.Replaced.{Replaced}

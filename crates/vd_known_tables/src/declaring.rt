@@ -3,8 +3,8 @@
 ghost use Rattle.std.specs.Prelude.{◌≡◌, ◌≤◌, ◌∷◌, [], IfOk, List, OnOk, length, true};
 ghost use Rattle.vd_composites.specs.Composites.{Value as AnyValue, bounds_of};
 ghost use Rattle.vd_forest.specs.Store.{Extends, at};
-ghost use Rattle.vd_indicating.specs.Indicated.{indicated_in, static_of};
-ghost use Rattle.vd_indicating.specs.Made.{Indicates, object_of};
+ghost use Rattle.vd_value_rules.specs.Indicated.{indicated_in, static_of};
+ghost use Rattle.vd_value_rules.specs.Made.{Indicates, object_of};
 ghost use Rattle.vd_known_tables.specs.Known.{AreKnown};
 ghost use Rattle.vd_meaning.specs.Tables.{Table};
 ghost use Rattle.vd_subtype_tables.specs.Tables.{declared_in};
@@ -16,8 +16,8 @@ use crate::entries::{object_entry, signal_entry, type_entry};
 use crate::table::KnownTable;
 use std::alloc::AllocError;
 use vd_composites::{Bounds, Value};
-use vd_indicating::StaticSort;
 use vd_subtype_tables::SubtypeTables;
+use vd_value_rules::StaticSort;
 
 /// The subtype of an object that is declared inside of a process or a function, or outside.
 fn subtype_of_object(

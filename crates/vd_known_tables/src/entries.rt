@@ -3,7 +3,7 @@
 ghost use Rattle.std.specs.Prelude.{◌≡◌, ◌≤◌, IfOk, None, length, true};
 ghost use Rattle.vd_composites.specs.Composites.{One, Value as AnyValue, bounds_of};
 ghost use Rattle.vd_forest.specs.Store.{at};
-ghost use Rattle.vd_indicating.specs.Indicated.{indicated_in, static_of};
+ghost use Rattle.vd_value_rules.specs.Indicated.{indicated_in, static_of};
 ghost use Rattle.vd_known_tables.specs.Denoted.{signal_denoted, subtype_denoted};
 ghost use Rattle.vd_meaning.specs.Tables.{Table};
 ghost use Rattle.vd_static_entries.specs.Entries.{IsEntry, no_entry};
@@ -15,10 +15,10 @@ use crate::slots::Unknown;
 use std::alloc::{AllocError, Global};
 use vd_composites::{Bounds, Value};
 use vd_forest::Cursor;
-use vd_indicating::StaticSort;
 use vd_resolved::Resolved;
 use vd_static_entries::Entry;
 use vd_subtype_tables::SubtypeTables;
+use vd_value_rules::StaticSort;
 use vd_values::Scalar;
 
 /// Any value, where none counts.

@@ -2,14 +2,14 @@
 
 ghost use Rattle.std.specs.Prelude.{◌≡◌, IfOk};
 ghost use Rattle.vd_composites.specs.Ranges.{from_left};
-ghost use Rattle.vd_indicating.specs.Indicated.{indicated_in};
+ghost use Rattle.vd_value_rules.specs.Indicated.{indicated_in};
 ghost use Rattle.vd_known_tables.specs.Shapes.{default_shape as shape_of_default, fitted_shape as shape_of_fitted, signals_shape as shape_of_signals};
 ghost use Rattle.vd_value_rules.specs.Knowledge.{later_bounds};
 
 use std::alloc::AllocError;
 use vd_composites::{Bounds, ScalarSubtype};
 use vd_forest::Cursor;
-use vd_indicating::IndicatedForm;
+use vd_value_rules::IndicatedForm;
 
 /// The bounds of an array of signals whose subtype has none.
 fn no_bounds() -> Bounds

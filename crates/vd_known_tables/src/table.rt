@@ -3,8 +3,8 @@
 ghost use Rattle.std.specs.Prelude.{◌≡◌, ◌≤◌, ◌∷◌, [], List, MatchOption, OnOk, length, true};
 ghost use Rattle.vd_environments.specs.Environments.{Denotation, Indicated};
 ghost use Rattle.vd_forest.specs.Store.{at};
-ghost use Rattle.vd_indicating.specs.Indicated.{indicated_in};
-ghost use Rattle.vd_indicating.specs.Made.{Indicates};
+ghost use Rattle.vd_value_rules.specs.Indicated.{indicated_in};
+ghost use Rattle.vd_value_rules.specs.Made.{Indicates};
 ghost use Rattle.vd_known_tables.specs.Contents.{or_nothing};
 ghost use Rattle.vd_known_tables.specs.Known.{AreKnown, CanGoBack, GoesBack, none_known, with_result};
 ghost use Rattle.vd_meaning.specs.Tables.{Table, table as table_of_design};

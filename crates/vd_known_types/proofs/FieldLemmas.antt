@@ -6,9 +6,9 @@ use Rattle.vd_environments.specs.Environments.{Field, Indicated}
 use Rattle.vd_forest.proofs.StoreLemmas.{at_more, within_more}
 use Rattle.vd_forest.specs.Forest.{Forest, more}
 use Rattle.vd_forest.specs.Store.{Extends, at}
-use Rattle.vd_indicating.specs.Indicated.{fields_in, indicated_in}
-use Rattle.vd_indicating.specs.declared.forms.IndicatedForm.{IndicatedForm}
-use Rattle.vd_indicating.specs.Made.{HasFields, Indicates}
+use Rattle.vd_value_rules.specs.Indicated.{fields_in, indicated_in}
+use Rattle.vd_value_rules.specs.declared.forms.IndicatedForm.{IndicatedForm}
+use Rattle.vd_value_rules.specs.Made.{HasFields, Indicates}
 use Rattle.vd_known_types.specs.Fields.{in_front}
 use Rattle.vd_meaning.specs.Declarations.{fields_named}
 use Rattle.vd_resolved.specs.declared.node.Resolved.{Resolved}

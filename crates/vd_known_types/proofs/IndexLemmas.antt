@@ -3,9 +3,9 @@ use Rattle.std.proofs.Common.{◌≡◌, List, ap, arith, subst, ℕ, ◌∙◌}
 use Rattle.vd_environments.specs.Environments.{Env, Indicated, Static}
 use Rattle.vd_forest.specs.Forest.{Forest}
 use Rattle.vd_forest.specs.Store.{Extends, at}
-use Rattle.vd_indicating.specs.Indicated.{indicated_in, static_of, texts_in}
-use Rattle.vd_indicating.specs.declared.forms.IndicatedForm.{IndicatedForm}
-use Rattle.vd_indicating.specs.Made.{Indicates, indexed_by, ranging}
+use Rattle.vd_value_rules.specs.Indicated.{indicated_in, static_of, texts_in}
+use Rattle.vd_value_rules.specs.declared.forms.IndicatedForm.{IndicatedForm}
+use Rattle.vd_value_rules.specs.Made.{Indicates, indexed_by, ranging}
 use Rattle.vd_known_tables.proofs.KnownLemmas.{indicates_grown}
 use Rattle.vd_known_types.specs.Arrays.{IsIndex, IsIndexWithin, array_by}
 use Rattle.vd_known_types.specs.declared.indexes.ArrayIndex.{ArrayIndex}

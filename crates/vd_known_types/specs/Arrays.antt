@@ -7,9 +7,9 @@ use Rattle.vd_environments.specs.Environments.{Env, Indicated, Static}
 use Rattle.vd_environments.specs.Got.{Got}
 use Rattle.vd_forest.specs.Forest.{Forest}
 use Rattle.vd_forest.specs.Store.{at}
-use Rattle.vd_indicating.specs.Indicated.{indicated_in, static_of, texts_in}
-use Rattle.vd_indicating.specs.declared.forms.IndicatedForm.{IndicatedForm}
-use Rattle.vd_indicating.specs.Made.{indexed_by, ranging}
+use Rattle.vd_value_rules.specs.Indicated.{indicated_in, static_of, texts_in}
+use Rattle.vd_value_rules.specs.declared.forms.IndicatedForm.{IndicatedForm}
+use Rattle.vd_value_rules.specs.Made.{indexed_by, ranging}
 use Rattle.vd_known_types.specs.declared.indexes.Index.{Index}
 use Rattle.vd_known_types.specs.declared.indexes.Index.TheVariants.{OfAnyBounds, WithRange}
 use Rattle.vd_known_types.specs.declared.indexes.ArrayIndex.{ArrayIndex}

@@ -2,8 +2,8 @@
 use Rattle.std.specs.Prelude.{◌∷◌, List, []}
 use Rattle.vd_environments.specs.Environments.{Field}
 use Rattle.vd_forest.specs.Forest.{Forest}
-use Rattle.vd_indicating.specs.declared.forms.IndicatedForm.{IndicatedForm}
-use Rattle.vd_indicating.specs.Made.{HasFields}
+use Rattle.vd_value_rules.specs.declared.forms.IndicatedForm.{IndicatedForm}
+use Rattle.vd_value_rules.specs.Made.{HasFields}
 use Rattle.vd_known_designs.specs.declared.indications.TwoSubtypes.{TwoSubtypes}
 
 -- the numbers stand for fields as they are and as they are for choices

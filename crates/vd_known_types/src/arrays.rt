@@ -2,8 +2,8 @@
 
 ghost use Rattle.std.specs.Prelude.{◌≡◌, ◌≤◌, ◌∷◌, IfOk, List, OnOk, false, length, true};
 ghost use Rattle.vd_forest.specs.Store.{Extends, at};
-ghost use Rattle.vd_indicating.specs.Indicated.{indicated_in, static_of};
-ghost use Rattle.vd_indicating.specs.Made.{Indicates};
+ghost use Rattle.vd_value_rules.specs.Indicated.{indicated_in, static_of};
+ghost use Rattle.vd_value_rules.specs.Made.{Indicates};
 ghost use Rattle.vd_known_designs.specs.Designs.{AreIndicated, IsReady, Knows};
 ghost use Rattle.vd_known_types.specs.Arrays.{IsIndexWithin, array_by};
 ghost use Rattle.vd_value_rules.specs.Designs.{Design};

@@ -7,10 +7,10 @@ ghost use Rattle.vd_environments.specs.Environments.{Env, Indicated, Static, lit
 ghost use Rattle.vd_environments.specs.Got.{Got};
 ghost use Rattle.vd_forest.specs.Forest.{Forest};
 ghost use Rattle.vd_forest.specs.Store.{at};
-ghost use Rattle.vd_indicating.specs.Indicated.{indicated_in, texts_in};
-ghost use Rattle.vd_indicating.specs.declared.forms.IndicatedForm.{IndicatedForm as Form};
-ghost use Rattle.vd_indicating.specs.Found.{found};
-ghost use Rattle.vd_indicating.specs.Made.{later_array};
+ghost use Rattle.vd_value_rules.specs.Indicated.{indicated_in, texts_in};
+ghost use Rattle.vd_value_rules.specs.declared.forms.IndicatedForm.{IndicatedForm as Form};
+ghost use Rattle.vd_value_rules.specs.Found.{found};
+ghost use Rattle.vd_value_rules.specs.Made.{later_array};
 ghost use Rattle.vd_known_designs.specs.Designs.{IsReady, Knows};
 ghost use Rattle.vd_known_types.specs.Arrays.{IsIndex, IsIndexWithin, array_by, ranged};
 ghost use Rattle.vd_meaning.specs.Facets.{Meaning, nth};
@@ -26,12 +26,12 @@ ghost use Rattle.vd_value_rules.specs.Knowledge.{Known, any_bounds, array_define
 
 use vd_composites::{Bounds, ScalarSubtype};
 use vd_forest::{Cursor, Store};
-use vd_indicating::subtypes::scalar;
-use vd_indicating::{IndicatedForm, StaticSort};
 use vd_known_designs::KnownDesign;
 use vd_known_indications::indications::early_range;
 use vd_static_entries::{KnownName, Node, Sense};
 use vd_static_names::subtypes::{scalar_number, scalar_of};
+use vd_value_rules::subtypes::scalar;
+use vd_value_rules::{IndicatedForm, StaticSort};
 
 /// The index of an array type.
 #[derive(Clone, Copy)]

@@ -2,7 +2,7 @@
 
 ghost use Rattle.std.specs.Prelude.{◌≡◌, ◌≤◌, IfOk, length};
 ghost use Rattle.vd_forest.specs.Store.{Extends, at};
-ghost use Rattle.vd_indicating.specs.Indicated.{fields_in, indicated_in, texts_in};
+ghost use Rattle.vd_value_rules.specs.Indicated.{fields_in, indicated_in, texts_in};
 ghost use Rattle.vd_known_types.specs.Fields.{in_front};
 ghost use Rattle.vd_meaning.specs.Declarations.{fields_named};
 

@@ -3,8 +3,8 @@
 ghost use Rattle.std.specs.Prelude.{◌≡◌, ◌≤◌, ◌∷◌, [], IfOk, List, OnOk, false, length, true};
 ghost use Rattle.vd_environments.specs.Environments.{Field};
 ghost use Rattle.vd_forest.specs.Store.{Extends, at};
-ghost use Rattle.vd_indicating.specs.Indicated.{fields_in};
-ghost use Rattle.vd_indicating.specs.Made.{Indicates};
+ghost use Rattle.vd_value_rules.specs.Indicated.{fields_in};
+ghost use Rattle.vd_value_rules.specs.Made.{Indicates};
 ghost use Rattle.vd_known_designs.specs.Designs.{AreIndicated, IsReady, Knows};
 ghost use Rattle.vd_known_types.specs.Fields.{AreFields, in_front};
 ghost use Rattle.vd_meaning.specs.Declarations.{fields_named, record_type};

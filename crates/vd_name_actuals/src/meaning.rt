@@ -10,7 +10,7 @@ use std::alloc::{AllocError, Global};
 use vd_declarations::DeclId;
 use vd_forest::Cursor;
 use vd_forms::Form;
-use vd_name_paths::{Meant, meant_by_selection, visible_meant};
+use vd_naming::{Meant, meant_by_selection, visible_meant};
 use vd_sights::Surroundings;
 use vd_ways::names::symbol_name;
 

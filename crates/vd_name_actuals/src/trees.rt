@@ -15,7 +15,7 @@ use vd_declarations::DeclId;
 use vd_forest::{Cursor, Opened, Store};
 use vd_forms::Form;
 use vd_name_outcomes::add_node;
-use vd_name_paths::{Meant, meant_by_selection, unresolved};
+use vd_naming::{Meant, meant_by_selection, unresolved};
 use vd_resolved::Resolved;
 use vd_sights::Surroundings;
 

@@ -3,7 +3,7 @@ use Rattle.std.proofs.Common.{◌≡◌, ℕ, Bool, None, refl}
 use Rattle.std.specs.List.{filter}
 use Rattle.vd_naming.specs.Generics.{meant_that}
 use Rattle.vd_naming.specs.Selected.{Meant, Means, Breaks}
-use Rattle.vd_name_paths.specs.Kept.{declarations_of, broken_by}
+use Rattle.vd_naming.specs.Kept.{declarations_of, broken_by}
 
 -- where no rule is broken
 pub meant_those : (test : ℕ → Bool) (m : Meant) → broken_by m ≡ None → meant_that test m ≡ Means (filter test (declarations_of m))

@@ -15,8 +15,8 @@ use vd_forest::{Opened, Store};
 use vd_forms::Form;
 use vd_name_lookup::{Units, found_in, region_inside};
 use vd_name_outcomes::{Made, add_node};
-use vd_name_paths::broken_if;
 use vd_name_states::{At, Names, Sort};
+use vd_naming::broken_if;
 use vd_resolved::Resolved;
 
 /// Whether there is no unit of this number, or it doesn't stand in front of another.

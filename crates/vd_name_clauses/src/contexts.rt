@@ -20,8 +20,8 @@ use vd_forest::{Opened, Store};
 use vd_forms::Form;
 use vd_name_labels::add_named;
 use vd_name_outcomes::Made;
-use vd_name_paths::{Fit, path_meant};
 use vd_name_states::{At, Names, Sort};
+use vd_naming::{Fit, path_meant};
 use vd_resolved::Resolved;
 
 /// A declaration once more.

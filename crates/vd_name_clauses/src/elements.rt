@@ -15,8 +15,8 @@ use vd_least::lesser;
 use vd_name_labels::add_named;
 use vd_name_lookup::found_inside;
 use vd_name_outcomes::{Made, add_node};
-use vd_name_paths::broken_if;
 use vd_name_states::{At, Names, Sort};
+use vd_naming::broken_if;
 use vd_resolved::Resolved;
 
 /// The region of the elements of a record type, where there is one.

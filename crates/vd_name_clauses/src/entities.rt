@@ -17,8 +17,8 @@ use vd_forms::Form;
 use vd_name_labels::named_at;
 use vd_name_lookup::unit_named;
 use vd_name_outcomes::{Made, add_node};
-use vd_name_paths::Fit;
 use vd_name_states::{At, Names, Sort, Word};
+use vd_naming::Fit;
 use vd_resolved::Resolved;
 
 /// What is refused where there is no entity of a name, given what unit has it.

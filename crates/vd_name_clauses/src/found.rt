@@ -6,7 +6,7 @@ ghost use Rattle.vd_forest.specs.Store.{Holds, Extends};
 ghost use Rattle.vd_sights.specs.Sights.{sight_from};
 ghost use Rattle.vd_name_states.specs.Refusals.{broken};
 ghost use Rattle.vd_naming.specs.Paths.{named_path, one_that as only_that, rule_of as rule_by};
-ghost use Rattle.vd_name_paths.specs.Fits.{fits};
+ghost use Rattle.vd_naming.specs.Fits.{fits};
 
 use std::alloc::{AllocError, Global};
 use vd_bytes::Refused;
@@ -15,8 +15,8 @@ use vd_forest::{Opened, Store};
 use vd_forms::Form;
 use vd_name_labels::add_named;
 use vd_name_outcomes::Made;
-use vd_name_paths::{Fit, Meant, one_that, rule_of};
 use vd_name_states::Names;
+use vd_naming::{Fit, Meant, one_that, rule_of};
 use vd_resolved::Resolved;
 use vd_sights::Surroundings;
 

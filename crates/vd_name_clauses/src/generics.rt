@@ -20,10 +20,10 @@ use vd_forms::Form;
 use vd_least::lesser;
 use vd_name_labels::add_named;
 use vd_name_outcomes::Made;
-use vd_name_paths::{
+use vd_name_states::{At, Names};
+use vd_naming::{
     Fit, Meant, broken_if, one_that, path_meant, path_outside, prefix_outside, refused_path,
 };
-use vd_name_states::{At, Names};
 use vd_resolved::Resolved;
 
 /// What can be instantiated: a package or a function with generics.

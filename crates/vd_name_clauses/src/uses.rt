@@ -20,8 +20,8 @@ use vd_forms::Form;
 use vd_least::lesser;
 use vd_name_labels::add_named;
 use vd_name_outcomes::Made;
-use vd_name_paths::{Fit, broken_if, path_outside, prefix_meant};
 use vd_name_states::{At, Names};
+use vd_naming::{Fit, broken_if, path_outside, prefix_meant};
 use vd_resolved::Resolved;
 
 /// The package that a name has in front of its last piece.

@@ -13,8 +13,8 @@ use vd_declarations::{Class, DeclId};
 use vd_forest::{Cursor, Store};
 use vd_forms::Form;
 use vd_name_outcomes::{Ended, Made, finished, form_of_next};
-use vd_name_paths::broken_if;
 use vd_name_states::Names;
+use vd_naming::broken_if;
 use vd_resolved::Resolved;
 use vd_sights::types::{element_of, is_scalar};
 

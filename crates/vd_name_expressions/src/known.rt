@@ -12,9 +12,9 @@ use std::alloc::{AllocError, Global};
 use vd_forest::{Cursor, Store};
 use vd_forms::Form;
 use vd_name_outcomes::Made;
-use vd_name_paths::unresolved;
 use vd_name_reading::{is_absent, read_as, refused_names, wanted_at};
 use vd_name_states::{At, Names, Want};
+use vd_naming::unresolved;
 use vd_overloads::Wanted;
 use vd_resolved::Resolved;
 

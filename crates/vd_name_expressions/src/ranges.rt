@@ -14,9 +14,9 @@ use vd_forest::{Cursor, Store};
 use vd_forms::Form;
 use vd_least::lesser;
 use vd_name_outcomes::{Made, join};
-use vd_name_paths::unresolved;
 use vd_name_reading::{fits_wanted, mark_declared};
 use vd_name_states::{At, Names};
+use vd_naming::unresolved;
 use vd_overloads::Wanted;
 use vd_resolved::Resolved;
 

@@ -18,9 +18,9 @@ use vd_forms::Form;
 use vd_least::lesser;
 use vd_name_entering::{declaration_of, enter};
 use vd_name_outcomes::{Made, one_tree, unresolved_node};
-use vd_name_paths::broken_if;
 use vd_name_reading::{mark_declared, mark_of};
 use vd_name_states::{At, Names, Want};
+use vd_naming::broken_if;
 use vd_overloads::Wanted;
 use vd_resolved::Resolved;
 

@@ -16,8 +16,8 @@ use vd_declarations::{DeclId, Declaration};
 use vd_forest::{Opened, Store};
 use vd_forms::Form;
 use vd_name_outcomes::{Made, one_tree};
-use vd_name_paths::{Fit, fits_are_tests, named_as};
 use vd_name_states::{At, Names, Taken};
+use vd_naming::{Fit, fits_are_tests, named_as};
 use vd_resolved::Resolved;
 
 /// The body is that of a declaration, whose header its own stands for.

@@ -22,8 +22,8 @@ use vd_least::lesser;
 use vd_name_copies::{Instance, add_copies};
 use vd_name_entering::{enter, named_at};
 use vd_name_outcomes::{Ended, Made, finished};
-use vd_name_paths::broken_if;
 use vd_name_states::{At, Names};
+use vd_naming::broken_if;
 use vd_resolved::Resolved;
 use vd_trees::Revision;
 

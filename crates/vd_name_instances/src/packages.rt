@@ -17,9 +17,9 @@ use vd_forest::Store;
 use vd_name_copies::{Instance, add_copies};
 use vd_name_entering::named_at;
 use vd_name_outcomes::{Ended, Made, finished};
-use vd_name_paths::broken_if;
 use vd_name_states::{At, Names};
 use vd_name_units::enter_unit;
+use vd_naming::broken_if;
 use vd_resolved::Resolved;
 
 /// The declaration of an instance, with the name that was read last at a place.

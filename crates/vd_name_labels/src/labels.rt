@@ -16,8 +16,8 @@ use vd_forest::{Opened, Store};
 use vd_forms::Form;
 use vd_name_entering::{declaration_of, enter};
 use vd_name_outcomes::{Made, add_node};
-use vd_name_paths::{Fit, Meant, one_that, refused_path, visible_meant};
 use vd_name_states::{At, Names, Note};
+use vd_naming::{Fit, Meant, one_that, refused_path, visible_meant};
 use vd_resolved::Resolved;
 
 /// Notes that a label is that of a loop, where it is.

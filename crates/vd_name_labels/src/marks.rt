@@ -7,7 +7,7 @@ ghost use Rattle.vd_naming.specs.Paths.{mark as mark_step, with_named};
 ghost use Rattle.vd_naming.specs.Views.{record_viewed as record_of_view, view_name as view_name_step, converse as converse_step};
 ghost use Rattle.vd_name_states.specs.Designs as designs;
 ghost use Rattle.vd_name_outcomes.specs.Made.{IsMade};
-ghost use Rattle.vd_name_paths.specs.Nodes.{named_to_fit};
+ghost use Rattle.vd_naming.specs.Nodes.{named_to_fit};
 
 use std::alloc::{AllocError, Global};
 use vd_bytes::{Place, Refused};
@@ -15,8 +15,8 @@ use vd_declarations::{DeclId, TypeId};
 use vd_forest::{Opened, Store};
 use vd_forms::Form;
 use vd_name_outcomes::{Made, add_node, one_tree};
-use vd_name_paths::{Fit, Named, broken_if, named_as};
 use vd_name_states::{At, Names};
+use vd_naming::{Fit, Named, broken_if, named_as};
 use vd_resolved::Resolved;
 
 /// A name that has to mean one declaration that fits. What is at hand behind it is not kept yet.

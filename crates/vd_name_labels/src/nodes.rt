@@ -9,7 +9,7 @@ use std::alloc::{AllocError, Global};
 use vd_declarations::DeclId;
 use vd_forest::{Opened, Store};
 use vd_forms::Form;
-use vd_name_paths::unresolved;
+use vd_naming::unresolved;
 use vd_resolved::Resolved;
 
 /// A name with what it names, in front of other trees.

@@ -10,8 +10,8 @@ use std::alloc::{AllocError, Global};
 use vd_forest::{Cursor, Opened, Store};
 use vd_forms::Form;
 use vd_name_outcomes::{Made, is_single, unresolved_node};
-use vd_name_paths::broken_if;
 use vd_name_states::{At, Names, Word};
+use vd_naming::broken_if;
 use vd_resolved::Resolved;
 
 /// A tree in which nothing is named.

@@ -13,9 +13,9 @@ use vd_declarations::DeclId;
 use vd_forest::{Cursor, Opened, Store};
 use vd_forms::{Form, is_expression};
 use vd_name_outcomes::{add_node, join, one_tree};
-use vd_name_paths::unresolved;
 use vd_name_reading::refused_names;
 use vd_name_states::{At, Names};
+use vd_naming::unresolved;
 use vd_resolved::Resolved;
 
 /// The first name that is refused in an element that is for nothing, where it is an expression.

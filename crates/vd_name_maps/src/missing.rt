@@ -14,8 +14,8 @@ use vd_declarations::{Class, DeclId, TypeId};
 use vd_name_actuals::refusals::is_unfit;
 use vd_name_actuals::{Known, profile_in};
 use vd_name_associations::Elements;
-use vd_name_paths::broken_if;
 use vd_name_states::{At, Names};
+use vd_naming::broken_if;
 
 /// Whether no function is known that can stand for a generic one.
 fn lacks_function(names: &Names, found: Option<DeclId>) -> bool

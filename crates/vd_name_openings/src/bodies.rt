@@ -17,9 +17,9 @@ use vd_forms::Form;
 use vd_least::lesser;
 use vd_name_entering::note_bodies;
 use vd_name_lookup::{region_inside, unit_named};
-use vd_name_paths::{Meant, broken_if, refused_path};
 use vd_name_states::{At, Names, Sort};
 use vd_name_units::{instances_in, is_library_word};
+use vd_naming::{Meant, broken_if, refused_path};
 
 /// A unit that isn't there, or one of another class.
 fn no_unit(alloc: Global, found: Option<DeclId>) -> Meant

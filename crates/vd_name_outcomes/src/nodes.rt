@@ -9,7 +9,7 @@ use std::alloc::{AllocError, Global};
 use vd_declarations::{DeclId, TypeId};
 use vd_forest::{Opened, Store};
 use vd_forms::Form;
-use vd_name_paths::unresolved;
+use vd_naming::unresolved;
 use vd_resolved::Resolved;
 
 /// A node once more, with a declaration, a type and other parts, and nothing behind it.

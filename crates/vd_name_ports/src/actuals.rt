@@ -17,9 +17,9 @@ use vd_forest::{Cursor, Store};
 use vd_forms::Form;
 use vd_name_expressions::reading::read_first;
 use vd_name_outcomes::unresolved_node;
-use vd_name_paths::broken_if;
 use vd_name_reading::Read;
 use vd_name_states::{Formal, Names};
+use vd_naming::broken_if;
 use vd_overloads::Wanted;
 use vd_resolved::Resolved;
 

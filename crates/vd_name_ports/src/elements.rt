@@ -19,8 +19,8 @@ use vd_least::lesser;
 use vd_name_associations::given::Given;
 use vd_name_maps::names_of_expression;
 use vd_name_outcomes::unresolved_node;
-use vd_name_paths::broken_if;
 use vd_name_reading::Read;
+use vd_naming::broken_if;
 use vd_resolved::Resolved;
 
 /// The elements of a port map so far: their trees, the last one first, the first rule that is broken, the ports that have an element, whether

@@ -22,8 +22,8 @@ use vd_forms::Form;
 use vd_least::lesser;
 use vd_name_associations::given::Given;
 use vd_name_outcomes::{Made, add_node, unresolved_node};
-use vd_name_paths::broken_if;
 use vd_name_states::{At, Names};
+use vd_naming::broken_if;
 use vd_resolved::Resolved;
 
 /// The elements of a map.

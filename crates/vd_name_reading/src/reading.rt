@@ -11,8 +11,8 @@ use vd_bytes::{Refusal, Refused};
 use vd_forest::{Cursor, Store};
 use vd_forms::Form;
 use vd_least::lesser;
-use vd_name_paths::unresolved;
 use vd_name_states::{At, Names};
+use vd_naming::unresolved;
 use vd_overloads::{Env, Wanted, resolve_expr};
 use vd_resolved::Resolved;
 

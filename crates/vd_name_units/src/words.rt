@@ -5,7 +5,7 @@ ghost use Rattle.vd_naming.specs.Units.{is_library_word as is_name_of_library, r
 
 use vd_bytes::Refused;
 use vd_declarations::Declaration;
-use vd_name_paths::broken_if;
+use vd_naming::broken_if;
 
 /// Whether a name is that of a library.
 pub fn is_library_word(name: &[u8]) -> bool

@@ -19,8 +19,8 @@ use vd_least::lesser;
 use vd_name_declaring::declared_word;
 use vd_name_entering::enter;
 use vd_name_outcomes::{Ended, Made, finished};
-use vd_name_paths::broken_if;
 use vd_name_states::Names;
+use vd_naming::broken_if;
 use vd_resolved::Resolved;
 
 /// Whether one of the elements of a record type is given several times, or is missing, by these counts.

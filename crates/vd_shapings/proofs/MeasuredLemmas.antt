@@ -1,7 +1,7 @@
 -- Parts by their numbers, and names piece by piece.
 use Rattle.std.proofs.Common.{◌≡◌, ◌∷◌, ◌∙◌, ◌+◌, ◌<◌, ap, arith, drop, drop-cons, get_or, length, List, None, Option, Some, [], refl, slice_get, subst, suc, zero, ℕ}
 use Rattle.vd_forest.specs.Forest.{Forest}
-use Rattle.vd_indicating.specs.declared.forms.IndicatedForm.{IndicatedForm}
+use Rattle.vd_value_rules.specs.declared.forms.IndicatedForm.{IndicatedForm}
 use Rattle.vd_shapings.specs.Extents.{AreMeasured, IsExtent, IsMeasured, IsPiece}
 use Rattle.vd_shapings.specs.declared.extents.Extent.{Extent}
 use Rattle.vd_shapings.specs.declared.pieces.Measured.{Measured}

@@ -5,8 +5,8 @@ use Rattle.vd_facets.specs.Roles.{read_role}
 use Rattle.vd_facets.specs.declared.roles.Role.{Role as WrittenRole}
 use Rattle.vd_facets.specs.declared.roles.Role.TheVariants as written
 use Rattle.vd_forest.specs.Forest.{Forest}
-use Rattle.vd_indicating.specs.declared.forms.IndicatedForm.{IndicatedForm}
-use Rattle.vd_indicating.specs.Made.{Indicates}
+use Rattle.vd_value_rules.specs.declared.forms.IndicatedForm.{IndicatedForm}
+use Rattle.vd_value_rules.specs.Made.{Indicates}
 use Rattle.vd_known_tables.specs.Known.{AreKnown}
 use Rattle.vd_meaning.specs.Kinds.{kind}
 use Rattle.vd_meaning.specs.Names.{number_or}

@@ -6,8 +6,8 @@ use Rattle.vd_composites.specs.declared.scalars.ScalarSubtype.{ScalarSubtype}
 use Rattle.vd_environments.specs.Environments.{Make, Static, or_senseless, sliced_make}
 use Rattle.vd_forest.specs.Forest.{Forest}
 use Rattle.vd_forest.specs.Store.{at}
-use Rattle.vd_indicating.specs.Indicated.{indicated_in, static_of}
-use Rattle.vd_indicating.specs.declared.forms.IndicatedForm.{IndicatedForm}
+use Rattle.vd_value_rules.specs.Indicated.{indicated_in, static_of}
+use Rattle.vd_value_rules.specs.declared.forms.IndicatedForm.{IndicatedForm}
 use Rattle.vd_meaning.specs.Names.{scalars_of, sliced_subtype}
 use Rattle.vd_shapings.specs.Extents.{values_taken}
 use Rattle.vd_static_entries.specs.Names.{bounds_or_later, indicated_by, number_in}

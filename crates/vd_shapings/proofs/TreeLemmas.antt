@@ -5,7 +5,7 @@ use Rattle.std.specs.Prelude.{Err, IfOk, Ok, Result, Vec}
 use Rattle.vd_bytes.specs.declared.places.Place.{Place}
 use Rattle.vd_forest.specs.Forest.{Forest, more, nothing}
 use Rattle.vd_from_leaves.specs.Trees.{AreTrees}
-use Rattle.vd_indicating.specs.declared.forms.IndicatedForm.{IndicatedForm}
+use Rattle.vd_value_rules.specs.declared.forms.IndicatedForm.{IndicatedForm}
 use Rattle.vd_meaning.specs.Facets.{Meaning}
 use Rattle.vd_meaning.specs.Operators.{operand_kind}
 use Rattle.vd_resolved.specs.declared.node.Resolved.{Resolved}

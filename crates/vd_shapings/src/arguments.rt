@@ -4,7 +4,7 @@ ghost use Rattle.std.specs.Prelude.{◌≡◌, IfOk, List};
 ghost use Rattle.vd_environments.specs.Environments.{Env};
 ghost use Rattle.vd_facets.specs.Roles.{read_role};
 ghost use Rattle.vd_forest.specs.Forest.{Forest};
-ghost use Rattle.vd_indicating.specs.declared.forms.IndicatedForm.{IndicatedForm};
+ghost use Rattle.vd_value_rules.specs.declared.forms.IndicatedForm.{IndicatedForm};
 ghost use Rattle.vd_indicated_fields.specs.Jumps.{AreJumps};
 ghost use Rattle.vd_meaning.specs.Facets.{Meaning, nth};
 ghost use Rattle.vd_meaning.specs.Meanings.{meanings};

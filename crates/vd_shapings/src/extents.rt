@@ -7,8 +7,8 @@ ghost use Rattle.vd_value_rules.specs.Lengths.{nothing_shaped, shaped_by};
 
 use crate::subtypes::static_length;
 use vd_forest::Store;
-use vd_indicating::IndicatedForm;
 use vd_static_entries::NameSubtype;
+use vd_value_rules::IndicatedForm;
 
 /// The subtype of an expression where its form gives one, or else its type, with its known length.
 #[derive(Clone, Copy, Debug)]

@@ -24,9 +24,9 @@ use std::mem;
 use vd_forest::{Cursor, Opened, Store};
 use vd_from_leaves::{FromLeaves, from_leaves};
 use vd_indicated_fields::FieldTable;
-use vd_indicating::IndicatedForm;
 use vd_operations::tables::{followed, is_predefined};
 use vd_resolved::Resolved;
+use vd_value_rules::IndicatedForm;
 
 /// A concatenation.
 fn joining(

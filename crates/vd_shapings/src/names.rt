@@ -11,7 +11,7 @@ use crate::pieces::{Measured, no_measure, with_piece};
 use std::alloc::AllocError;
 use vd_forest::Store;
 use vd_indicated_fields::FieldTable;
-use vd_indicating::IndicatedForm;
+use vd_value_rules::IndicatedForm;
 
 /// The part with a number.
 

@@ -1,7 +1,7 @@
 //! What the subtypes of expressions are found over, and those of declarations.
 
 ghost use Rattle.std.specs.Prelude.{◌≤◌, length};
-ghost use Rattle.vd_indicating.specs.Made.{Indicates};
+ghost use Rattle.vd_value_rules.specs.Made.{Indicates};
 ghost use Rattle.vd_shapings.specs.Extents.{CanSee, Sees};
 ghost use Rattle.vd_value_rules.specs.Declaring.{result_in};
 ghost use Rattle.vd_value_rules.specs.Designs.{Design};

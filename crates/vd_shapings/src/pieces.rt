@@ -11,7 +11,7 @@ use std::alloc::AllocError;
 use vd_composites::Bounds;
 use vd_forest::Store;
 use vd_indicated_fields::FieldTable;
-use vd_indicating::{IndicatedForm, StaticSort};
+use vd_value_rules::{IndicatedForm, StaticSort};
 
 /// What a list in brackets is behind what isn't an attribute of a type.
 #[derive(Clone, Copy, Debug)]

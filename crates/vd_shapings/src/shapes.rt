@@ -15,9 +15,9 @@ use crate::subtypes::{is_array, taken, taken_elements};
 use std::alloc::{AllocError, Global};
 use vd_composites::Bounds;
 use vd_forest::{Cursor, Store};
-use vd_indicating::IndicatedForm;
 use vd_known_designs::KnownDesign;
 use vd_resolved::Resolved;
+use vd_value_rules::IndicatedForm;
 
 /// What is known of the shape of an expression.
 #[derive(Clone, Copy, Debug)]

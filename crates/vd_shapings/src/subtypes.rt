@@ -4,9 +4,9 @@ ghost use Rattle.std.specs.Prelude.{◌≡◌, ◌≤◌, IfOk, length};
 ghost use Rattle.vd_composites.specs.Scalars.{whole_range as all_values};
 ghost use Rattle.vd_environments.specs.Environments.{or_senseless};
 ghost use Rattle.vd_forest.specs.Store.{at};
-ghost use Rattle.vd_indicating.specs.Indicated.{element_indicated, field_indicated, indicated_in, static_of};
+ghost use Rattle.vd_value_rules.specs.Indicated.{element_indicated, field_indicated, indicated_in, static_of};
 ghost use Rattle.vd_indicated_fields.specs.Jumps.{AreJumps};
-ghost use Rattle.vd_indicating.specs.Made.{slice_of};
+ghost use Rattle.vd_value_rules.specs.Made.{slice_of};
 ghost use Rattle.vd_meaning.specs.Names.{bounds_of_subtype};
 ghost use Rattle.vd_shapings.specs.Extents.{IsSubtype, values_taken};
 ghost use Rattle.vd_static_entries.specs.Names.{bounds_or_later as known_or_later, indicated_by, number_in};
@@ -17,10 +17,10 @@ use std::alloc::AllocError;
 use vd_composites::{Bounds, ScalarSubtype, ScalarType};
 use vd_forest::Store;
 use vd_indicated_fields::FieldTable;
-use vd_indicating::array_facts::array_bounds;
-use vd_indicating::{IndicatedForm, StaticSort};
 use vd_static_entries::NameSubtype;
 use vd_static_names::subtypes::{number_of, own_bounds, scalar_of};
+use vd_value_rules::array_facts::array_bounds;
+use vd_value_rules::{IndicatedForm, StaticSort};
 
 /// Whether the subtype with a number is of arrays.
 fn is_array_at(subtypes: &Store<IndicatedForm>, number: u32) -> bool

@@ -16,9 +16,9 @@ use std::alloc::{AllocError, Global};
 use vd_declarations::DeclId;
 use vd_facets::{formal_of, is_positional};
 use vd_forest::Cursor;
-use vd_indicating::subtypes::has_bounds;
 use vd_known_designs::KnownDesign;
 use vd_resolved::Resolved;
+use vd_value_rules::subtypes::has_bounds;
 
 /// Whether these trees are one element without choices.
 pub(crate) fn is_one_element(parts: &Cursor<'_, Resolved>) -> bool

@@ -22,12 +22,12 @@ use std::alloc::{AllocError, Global};
 use vd_declarations::DeclId;
 use vd_facets::Role;
 use vd_forest::Cursor;
-use vd_indicating::subtypes::has_bounds;
 use vd_known_designs::KnownDesign;
 use vd_known_indications::indicated_twice;
 use vd_operations::tables::{followed, is_predefined, parameters_of};
 use vd_port_modes::Interfaces;
 use vd_resolved::Resolved;
+use vd_value_rules::subtypes::has_bounds;
 
 /// What a tree is to the node above it.
 #[derive(Clone, Copy)]

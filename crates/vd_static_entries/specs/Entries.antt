@@ -6,9 +6,9 @@ use Rattle.vd_environments.specs.Environments.{Argument, Denotation, Env, Signal
 use Rattle.vd_environments.specs.Got.{Got, is_got, senseless}
 use Rattle.vd_forest.specs.Forest.{Forest}
 use Rattle.vd_forest.specs.Store.{at}
-use Rattle.vd_indicating.specs.Indicated.{indicated_in, static_of}
-use Rattle.vd_indicating.specs.declared.forms.IndicatedForm.{IndicatedForm}
-use Rattle.vd_indicating.specs.declared.statics.StaticSort.{StaticSort}
+use Rattle.vd_value_rules.specs.Indicated.{indicated_in, static_of}
+use Rattle.vd_value_rules.specs.declared.forms.IndicatedForm.{IndicatedForm}
+use Rattle.vd_value_rules.specs.declared.statics.StaticSort.{StaticSort}
 use Rattle.vd_meaning.specs.Operators.{operation}
 use Rattle.vd_meaning.specs.Tables.{Table, table}
 pub use Rattle.vd_plain_values.specs.Operands.{operate_on}

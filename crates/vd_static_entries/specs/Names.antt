@@ -6,9 +6,9 @@ use Rattle.vd_environments.specs.Environments.{Env, Indicated, Make, OfElements,
 use Rattle.vd_environments.specs.Got.{Got, is_got}
 use Rattle.vd_forest.specs.Forest.{Forest}
 use Rattle.vd_forest.specs.Store.{at}
-use Rattle.vd_indicating.specs.Indicated.{indicated_in, static_of}
-use Rattle.vd_indicating.specs.declared.forms.IndicatedForm.{IndicatedForm}
-use Rattle.vd_indicating.specs.Made.{slice_of}
+use Rattle.vd_value_rules.specs.Indicated.{indicated_in, static_of}
+use Rattle.vd_value_rules.specs.declared.forms.IndicatedForm.{IndicatedForm}
+use Rattle.vd_value_rules.specs.Made.{slice_of}
 use Rattle.vd_meaning.specs.Names.{Attributed, Callee, Named, NoCallee}
 use Rattle.vd_meaning.specs.Names as names
 use Rattle.vd_static_entries.specs.Entries.{IsFound}

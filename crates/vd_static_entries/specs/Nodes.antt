@@ -5,8 +5,8 @@ use Rattle.vd_composites.specs.declared.ranges.Bounds.{Bounds}
 use Rattle.vd_environments.specs.Environments.{Env, Signals, Static, both}
 use Rattle.vd_environments.specs.Got.{Got}
 use Rattle.vd_forest.specs.Forest.{Forest}
-use Rattle.vd_indicating.specs.Indicated.{static_of}
-use Rattle.vd_indicating.specs.declared.forms.IndicatedForm.{IndicatedForm}
+use Rattle.vd_value_rules.specs.Indicated.{static_of}
+use Rattle.vd_value_rules.specs.declared.forms.IndicatedForm.{IndicatedForm}
 use Rattle.vd_meaning.specs.Facets.{Meaning}
 use Rattle.vd_meaning.specs.Names.{Attributed, Named, NoCallee, RangeOf, TypeAttribute, attribute_named, attributed, fresh, no_name, stepped, to_element, to_field, to_slice, type_attribute_value}
 use Rattle.vd_static_entries.specs.Entries.{IsFound}

@@ -3,8 +3,8 @@
 use vd_composites::{Bounds, Value};
 use vd_declarations::Declaration;
 use vd_forest::Store;
-use vd_indicating::{IndicatedForm, StaticSort};
 use vd_trees::Revision;
+use vd_value_rules::{IndicatedForm, StaticSort};
 
 /// What a declaration stands for when the text is analysed.
 #[derive(Drop)]

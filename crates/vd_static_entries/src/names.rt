@@ -1,7 +1,7 @@
 //! What is known of names.
 
 use vd_composites::{Bounds, Value};
-use vd_indicating::StaticSort;
+use vd_value_rules::StaticSort;
 
 /// The subtype of a name.
 #[derive(Clone, Copy, Debug)]

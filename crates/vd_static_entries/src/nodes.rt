@@ -4,7 +4,7 @@ use crate::names::KnownName;
 use crate::senses::Sense;
 use vd_composites::{Bounds, Value};
 use vd_declarations::TypeId;
-use vd_indicating::StaticSort;
+use vd_value_rules::StaticSort;
 
 /// What a list in brackets is behind what isn't an attribute of a type.
 #[derive(Drop)]

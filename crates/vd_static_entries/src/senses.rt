@@ -3,7 +3,7 @@
 use crate::names::{KnownName, Ranging};
 use vd_composites::Value;
 use vd_declarations::{DeclId, TypeId};
-use vd_indicating::StaticSort;
+use vd_value_rules::StaticSort;
 
 /// What an element in brackets stands for.
 #[derive(Clone, Copy, PartialEq, Eq, Debug)]

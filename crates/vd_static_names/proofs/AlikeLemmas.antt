@@ -8,10 +8,10 @@ use Rattle.vd_environments.specs.Environments.{Field, Make, Makes, OfElements, O
 use Rattle.vd_environments.specs.Got.{is_got}
 use Rattle.vd_forest.specs.Forest.{Forest, more, nothing}
 use Rattle.vd_forest.specs.Store.{at}
-use Rattle.vd_indicating.specs.Indicated.{element_indicated, field_indicated, fields_in, indicated_in, made_of, nothing_indicated, static_of, texts_in}
-use Rattle.vd_indicating.specs.declared.forms.IndicatedForm.{IndicatedForm}
-use Rattle.vd_indicating.specs.declared.forms.IndicatedForm.TheVariants as form
-use Rattle.vd_indicating.specs.declared.statics.StaticSort.{StaticSort}
+use Rattle.vd_value_rules.specs.Indicated.{element_indicated, field_indicated, fields_in, indicated_in, made_of, nothing_indicated, static_of, texts_in}
+use Rattle.vd_value_rules.specs.declared.forms.IndicatedForm.{IndicatedForm}
+use Rattle.vd_value_rules.specs.declared.forms.IndicatedForm.TheVariants as form
+use Rattle.vd_value_rules.specs.declared.statics.StaticSort.{StaticSort}
 use Rattle.vd_meaning.specs.Declarations.{makes_of, subtypes_of}
 use Rattle.vd_meaning.specs.Names.{element_of_subtype, field_subtype, nth_subtype, scalars_of, sliced_subtype}
 use Rattle.vd_static_entries.specs.Names.{bounds_or_later, has_made_bounds, indicated_by, number_in}

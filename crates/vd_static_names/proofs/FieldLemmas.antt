@@ -5,11 +5,11 @@ use Rattle.vd_environments.specs.Got.{is_got}
 use Rattle.vd_forest.proofs.ForestLemmas.{skipped_nothing}
 use Rattle.vd_forest.specs.Forest.{Forest, form_of, more, nothing, skipped}
 use Rattle.vd_forest.specs.Store.{at}
-use Rattle.vd_indicating.proofs.FieldLemmas.{field_skipped}
-use Rattle.vd_indicating.specs.Indicated.{field_indicated, fields_in, indicated_in}
-use Rattle.vd_indicating.specs.declared.forms.IndicatedForm.{IndicatedForm}
-use Rattle.vd_indicating.specs.declared.forms.IndicatedForm.TheVariants as form
-use Rattle.vd_indicating.specs.declared.statics.StaticSort.{StaticSort}
+use Rattle.vd_value_rules.proofs.FieldLemmas.{field_skipped}
+use Rattle.vd_value_rules.specs.Indicated.{field_indicated, fields_in, indicated_in}
+use Rattle.vd_value_rules.specs.declared.forms.IndicatedForm.{IndicatedForm}
+use Rattle.vd_value_rules.specs.declared.forms.IndicatedForm.TheVariants as form
+use Rattle.vd_value_rules.specs.declared.statics.StaticSort.{StaticSort}
 use Rattle.vd_indicated_fields.specs.Jumps.{field_trees}
 use Rattle.vd_meaning.specs.Declarations.{subtypes_of}
 use Rattle.vd_meaning.specs.Names.{field_subtype, nth_subtype}

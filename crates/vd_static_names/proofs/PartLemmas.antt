@@ -10,9 +10,9 @@ use Rattle.vd_environments.specs.Got.{Got, is_got}
 use Rattle.vd_composites.specs.Parts.{Step}
 use Rattle.vd_forest.specs.Forest.{Forest}
 use Rattle.vd_forest.specs.Store.{at}
-use Rattle.vd_indicating.specs.Indicated.{element_indicated, field_indicated, indicated_in, static_of}
-use Rattle.vd_indicating.specs.declared.forms.IndicatedForm.{IndicatedForm}
-use Rattle.vd_indicating.specs.declared.statics.StaticSort.{StaticSort}
+use Rattle.vd_value_rules.specs.Indicated.{element_indicated, field_indicated, indicated_in, static_of}
+use Rattle.vd_value_rules.specs.declared.forms.IndicatedForm.{IndicatedForm}
+use Rattle.vd_value_rules.specs.declared.statics.StaticSort.{StaticSort}
 use Rattle.vd_meaning.specs.Names.{Stepping, bounds_of_subtype, element_of_subtype, field_subtype, sliced_bounds, sliced_subtype, to_element, to_field, to_slice}
 use Rattle.vd_static_entries.specs.Entries.{IsFound}
 use Rattle.vd_static_entries.specs.Names.{bounds_or_later, has_made_bounds, indicated_by, number_in}

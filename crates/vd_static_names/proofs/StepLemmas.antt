@@ -7,9 +7,9 @@ use Rattle.vd_composites.specs.declared.ranges.Bounds.{Bounds}
 use Rattle.vd_environments.specs.Environments.{Env, Make, Signals, both, is_static, only_global}
 use Rattle.vd_environments.specs.Got.{Got, is_got}
 use Rattle.vd_forest.specs.Forest.{Forest}
-use Rattle.vd_indicating.specs.Indicated.{static_of}
-use Rattle.vd_indicating.specs.declared.forms.IndicatedForm.{IndicatedForm}
-use Rattle.vd_indicating.specs.declared.statics.StaticSort.{StaticSort}
+use Rattle.vd_value_rules.specs.Indicated.{static_of}
+use Rattle.vd_value_rules.specs.declared.forms.IndicatedForm.{IndicatedForm}
+use Rattle.vd_value_rules.specs.declared.statics.StaticSort.{StaticSort}
 use Rattle.vd_meaning.specs.Names.{Named, Stepping, goes_on, part_of_value, shape_behind, shape_of_value, stepped, where_signal}
 use Rattle.vd_static_entries.specs.Entries.{IsFound}
 use Rattle.vd_static_entries.specs.Names.{IsName, Stops, has_made_bounds, indicated_by, number_in}

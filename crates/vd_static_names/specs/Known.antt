@@ -2,7 +2,7 @@
 use Rattle.std.specs.Prelude.{◌≤◌, List, None, Option, Some, if◌then◌else◌, length, ℕ}
 use Rattle.vd_composites.specs.Composites.{Value}
 use Rattle.vd_forest.specs.Forest.{Forest}
-use Rattle.vd_indicating.specs.declared.forms.IndicatedForm.{IndicatedForm}
+use Rattle.vd_value_rules.specs.declared.forms.IndicatedForm.{IndicatedForm}
 use Rattle.vd_static_entries.specs.Entries.{entry_at}
 use Rattle.vd_static_entries.specs.Names.{number_in}
 use Rattle.vd_static_entries.specs.declared.entries.Entry.{Entry}

@@ -1,13 +1,13 @@
 -- What is known of a part of a name, by what is known of the whole. No part is locally static, so that it has no value.
 use Rattle.std.specs.Prelude.{◌≡◌, ◌&&◌, ◌||◌, Bool, List, None, Option, false, is_some, ℕ}
-use Rattle.vd_indicating.specs.declared.statics.StaticSort.{StaticSort}
+use Rattle.vd_value_rules.specs.declared.statics.StaticSort.{StaticSort}
 use Rattle.vd_composites.specs.Stops.{◌>>=◌}
 use Rattle.vd_composites.specs.declared.ranges.Bounds.{Bounds}
 use Rattle.vd_environments.specs.Got.{Got, is_got}
 use Rattle.vd_forest.specs.Forest.{Forest, form_of}
 use Rattle.vd_forest.specs.Store.{at}
-use Rattle.vd_indicating.specs.Indicated.{field_indicated, indicated_in}
-use Rattle.vd_indicating.specs.declared.forms.IndicatedForm.{IndicatedForm}
+use Rattle.vd_value_rules.specs.Indicated.{field_indicated, indicated_in}
+use Rattle.vd_value_rules.specs.declared.forms.IndicatedForm.{IndicatedForm}
 use Rattle.vd_meaning.specs.Names.{field_subtype, sliced_bounds}
 use Rattle.vd_static_entries.specs.Names.{indicated_by}
 use Rattle.vd_static_entries.specs.declared.names.KnownName.{KnownName}

@@ -5,7 +5,7 @@ use Rattle.vd_composites.specs.Stops.{◌>>=◌}
 use Rattle.vd_composites.specs.declared.ranges.Bounds.{Bounds}
 use Rattle.vd_environments.specs.Environments.{Env, Signals, Static}
 use Rattle.vd_environments.specs.Got.{Got}
-use Rattle.vd_indicating.specs.declared.statics.StaticSort.{StaticSort}
+use Rattle.vd_value_rules.specs.declared.statics.StaticSort.{StaticSort}
 use Rattle.vd_meaning.specs.Names.{Named, no_name, shape_of_value, unless_stopped}
 use Rattle.vd_static_entries.specs.declared.names.KnownName.{KnownName}
 use Rattle.vd_static_entries.specs.declared.names.NameSubtype.TheVariants.{Stored}

@@ -4,8 +4,8 @@ ghost use Rattle.std.specs.Prelude.{◌≡◌, ℕ, List, Option, true};
 ghost use Rattle.vd_environments.specs.Environments.{Argument, Env, Signals, Static};
 ghost use Rattle.vd_environments.specs.Got.{Got};
 ghost use Rattle.vd_forest.specs.Forest.{Forest};
-ghost use Rattle.vd_indicating.specs.Indicated.{static_of};
-ghost use Rattle.vd_indicating.specs.declared.forms.IndicatedForm.{IndicatedForm as Form};
+ghost use Rattle.vd_value_rules.specs.Indicated.{static_of};
+ghost use Rattle.vd_value_rules.specs.declared.forms.IndicatedForm.{IndicatedForm as Form};
 ghost use Rattle.vd_meaning.specs.Names.{call, call_known, calls_known as known_of_calls};
 ghost use Rattle.vd_meaning.specs.Operators.{function_of};
 ghost use Rattle.vd_meaning.specs.Tables.{Table};
@@ -17,9 +17,9 @@ use crate::grounds::known_of;
 use crate::operators::is_local_operator;
 use crate::values::fresh;
 use vd_composites::Value;
-use vd_indicating::StaticSort;
 use vd_operations::is_predefined;
 use vd_static_entries::{Ground, KnownName};
+use vd_value_rules::StaticSort;
 
 /// How static the calls of a function can be.
 pub fn calls_known(ground: &Ground<'_>, number: u32) -> StaticSort

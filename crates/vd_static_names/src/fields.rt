@@ -10,8 +10,8 @@ ghost use Rattle.vd_static_names.specs.Parts.{IsField};
 use std::alloc::AllocError;
 use vd_forest::Store;
 use vd_indicated_fields::FieldTable;
-use vd_indicating::IndicatedForm;
 use vd_static_entries::NameSubtype;
+use vd_value_rules::IndicatedForm;
 
 /// Whether there is a tree.
 pub(crate) fn is_tree(subtypes: &Store<IndicatedForm>, number: u32) -> bool

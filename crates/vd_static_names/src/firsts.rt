@@ -3,7 +3,7 @@
 ghost use Rattle.std.specs.Prelude.{◌≡◌, ℕ, Option, IfOk, true};
 ghost use Rattle.vd_composites.specs.Composites.{One};
 ghost use Rattle.vd_environments.specs.Environments.{Env};
-ghost use Rattle.vd_indicating.specs.Indicated.{static_of};
+ghost use Rattle.vd_value_rules.specs.Indicated.{static_of};
 ghost use Rattle.vd_meaning.specs.Names.{constant, literal as literal_named, literal_known as known_of_literal, mark_of, signal as signal_named, variable};
 ghost use Rattle.vd_static_entries.specs.Entries.{IsGround};
 ghost use Rattle.vd_static_entries.specs.Names.{IsName};
@@ -16,10 +16,10 @@ use crate::values::own;
 use std::alloc::{AllocError, Global};
 use vd_composites::Value;
 use vd_declarations::TypeId;
-use vd_indicating::StaticSort;
-use vd_indicating::array_facts::array_bounds;
-use vd_indicating::subtypes::own_bounds;
 use vd_static_entries::{Ground, KnownName, NameSubtype, Ranging};
+use vd_value_rules::StaticSort;
+use vd_value_rules::array_facts::array_bounds;
+use vd_value_rules::subtypes::own_bounds;
 use vd_values::Scalar;
 
 /// A constant, a variable or a parameter.

@@ -6,8 +6,8 @@ ghost use Rattle.vd_static_names.specs.Known.{early_value as value_early};
 
 use std::alloc::{AllocError, Global};
 use vd_composites::{Bounds, Value};
-use vd_indicating::StaticSort;
 use vd_static_entries::Ground;
+use vd_value_rules::StaticSort;
 
 /// The subtype of an object or a mark, or of a function's result, by its number in the store.
 pub fn subtype_of(ground: &Ground<'_>, number: u32) -> u32

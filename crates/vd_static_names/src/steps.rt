@@ -6,7 +6,7 @@ ghost use Rattle.vd_composites.specs.declared.ranges.Bounds.{Bounds as Range};
 ghost use Rattle.vd_environments.specs.Environments.{Env, Signals, Static, or_senseless};
 ghost use Rattle.vd_environments.specs.Got.{Got, is_got};
 ghost use Rattle.vd_forest.specs.Store.{at};
-ghost use Rattle.vd_indicating.specs.Indicated.{indicated_in, static_of};
+ghost use Rattle.vd_value_rules.specs.Indicated.{indicated_in, static_of};
 ghost use Rattle.vd_indicated_fields.specs.Jumps.{AreJumps};
 ghost use Rattle.vd_meaning.specs.Names.{Named, bounds_of_subtype, element_of_subtype, stepped, to_element, to_field, to_slice};
 ghost use Rattle.vd_static_entries.specs.Entries.{IsFound};
@@ -21,9 +21,9 @@ use std::alloc::AllocError;
 use vd_composites::Bounds;
 use vd_forest::Store;
 use vd_indicated_fields::FieldTable;
-use vd_indicating::array_facts::array_bounds;
-use vd_indicating::{IndicatedForm, StaticSort};
 use vd_static_entries::{KnownName, NameSubtype, Ranging};
+use vd_value_rules::array_facts::array_bounds;
+use vd_value_rules::{IndicatedForm, StaticSort};
 
 /// The subtype of a part, and its bounds.
 #[derive(Clone, Copy)]

@@ -5,17 +5,17 @@ ghost use Rattle.vd_environments.specs.Environments.{or_senseless, own_bounds as
 ghost use Rattle.vd_environments.specs.Got.{is_got};
 ghost use Rattle.vd_forest.specs.Forest.{Forest};
 ghost use Rattle.vd_forest.specs.Store.{at};
-ghost use Rattle.vd_indicating.specs.Indicated.{element_indicated, indicated_in, static_of};
-ghost use Rattle.vd_indicating.specs.declared.forms.IndicatedForm.{IndicatedForm as Form};
+ghost use Rattle.vd_value_rules.specs.Indicated.{element_indicated, indicated_in, static_of};
+ghost use Rattle.vd_value_rules.specs.declared.forms.IndicatedForm.{IndicatedForm as Form};
 ghost use Rattle.vd_meaning.specs.Names.{element_of_subtype, range_of_subtype, scalars_of};
 ghost use Rattle.vd_static_entries.specs.Entries.{IsFound};
 ghost use Rattle.vd_static_entries.specs.Names.{indicated_by, number_in};
 
 use vd_composites::{Bounds, ScalarSubtype};
 use vd_forest::{Cursor, Store};
-use vd_indicating::subtypes::{own_bounds as stored_bounds, scalar};
-use vd_indicating::{IndicatedForm, StaticSort};
 use vd_static_entries::NameSubtype;
+use vd_value_rules::subtypes::{own_bounds as stored_bounds, scalar};
+use vd_value_rules::{IndicatedForm, StaticSort};
 
 /// The number of the subtype, or of that of which it is a slice.
 pub fn number_of(subtype: NameSubtype) -> u32

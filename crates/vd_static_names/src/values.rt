@@ -6,8 +6,8 @@ ghost use Rattle.vd_composites.specs.declared.ranges.Bounds.{Bounds as Range};
 ghost use Rattle.vd_environments.specs.Environments.{Env, Signals, Static};
 ghost use Rattle.vd_environments.specs.Got.{Got};
 ghost use Rattle.vd_forest.specs.Forest.{Forest};
-ghost use Rattle.vd_indicating.specs.Indicated.{static_of};
-ghost use Rattle.vd_indicating.specs.declared.forms.IndicatedForm.{IndicatedForm as Form};
+ghost use Rattle.vd_value_rules.specs.Indicated.{static_of};
+ghost use Rattle.vd_value_rules.specs.declared.forms.IndicatedForm.{IndicatedForm as Form};
 ghost use Rattle.vd_meaning.specs.Names.{fresh as fresh_named, no_name as nothing_named};
 ghost use Rattle.vd_static_entries.specs.Entries.{IsFound};
 ghost use Rattle.vd_static_entries.specs.Names.{IsName};
@@ -16,8 +16,8 @@ ghost use Rattle.vd_static_names.specs.Values.{bounds_behind, known_value, range
 ghost use Rattle.vd_values.specs.declared.scalar.Scalar.{Scalar};
 
 use vd_composites::{Bounds, Value};
-use vd_indicating::StaticSort;
 use vd_static_entries::{KnownName, NameSubtype, Ranging};
+use vd_value_rules::StaticSort;
 
 /// What is no object and no part of one.
 pub(crate) fn own(

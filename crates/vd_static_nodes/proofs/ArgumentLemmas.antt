@@ -3,7 +3,7 @@ use Rattle.std.proofs.Common.{◌≡◌, ◌||◌, ◌∙◌, ◌∷◌, Bool, L
 use Rattle.std.specs.List.{list_any}
 use Rattle.vd_environments.specs.Environments.{Env, unknown}
 use Rattle.vd_forest.specs.Forest.{Forest}
-use Rattle.vd_indicating.specs.declared.forms.IndicatedForm.{IndicatedForm}
+use Rattle.vd_value_rules.specs.declared.forms.IndicatedForm.{IndicatedForm}
 use Rattle.vd_meaning.specs.Brackets.{argument_in, arguments_for, is_positional, named_argument, names_it, nth_positional, or_else}
 use Rattle.vd_meaning.specs.Facets.{Choice, Meaning, known_of}
 use Rattle.vd_static_entries.specs.Entries.{IsFound}

@@ -6,7 +6,7 @@ use Rattle.vd_environments.specs.Environments.{Env}
 use Rattle.vd_environments.specs.Environments as environments
 use Rattle.vd_environments.specs.Got.{Got}
 use Rattle.vd_forest.specs.Forest.{Forest}
-use Rattle.vd_indicating.specs.declared.forms.IndicatedForm.{IndicatedForm}
+use Rattle.vd_value_rules.specs.declared.forms.IndicatedForm.{IndicatedForm}
 use Rattle.vd_meaning.specs.Brackets.{argument_read, arguments_for, called_with}
 use Rattle.vd_meaning.specs.Facets.{Meaning, known_of, nth}
 use Rattle.vd_meaning.specs.Names.{Named, call, fresh}

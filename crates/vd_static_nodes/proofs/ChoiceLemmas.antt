@@ -6,8 +6,8 @@ use Rattle.vd_composites.specs.Composites.{Value}
 use Rattle.vd_environments.specs.Environments.{Env, Static, both}
 use Rattle.vd_environments.specs.Got.{Got, senseless}
 use Rattle.vd_forest.specs.Forest.{Forest}
-use Rattle.vd_indicating.specs.Indicated.{static_of}
-use Rattle.vd_indicating.specs.declared.forms.IndicatedForm.{IndicatedForm}
+use Rattle.vd_value_rules.specs.Indicated.{static_of}
+use Rattle.vd_value_rules.specs.declared.forms.IndicatedForm.{IndicatedForm}
 use Rattle.vd_meaning.specs.Brackets.{choice_known, choice_of, choices_known}
 use Rattle.vd_meaning.specs.Facets.{Comparison, Meaning, expression, of_node}
 use Rattle.vd_resolved.specs.declared.node.Resolved.{Resolved}

@@ -2,7 +2,7 @@
 use Rattle.std.proofs.Common.{◌-◌, ◌≡◌, List, Option, Some, length, slice_get, subst, sym, ℕ}
 use Rattle.vd_environments.specs.Environments.{Env}
 use Rattle.vd_forest.specs.Forest.{Forest}
-use Rattle.vd_indicating.specs.declared.forms.IndicatedForm.{IndicatedForm}
+use Rattle.vd_value_rules.specs.declared.forms.IndicatedForm.{IndicatedForm}
 use Rattle.vd_meaning.specs.Facets.{Meaning, last_of, of_node}
 use Rattle.vd_resolved.specs.declared.node.Resolved.{Resolved}
 use Rattle.vd_static_entries.specs.Nodes.{AreNodes, IsNode}

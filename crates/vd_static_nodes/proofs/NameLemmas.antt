@@ -2,7 +2,7 @@
 use Rattle.std.proofs.Common.{◌≡◌, ◌∷◌, List, None, Option, Some, [], drop, false, is_some, subst, true}
 use Rattle.vd_environments.specs.Environments.{Env}
 use Rattle.vd_forest.specs.Forest.{Forest}
-use Rattle.vd_indicating.specs.declared.forms.IndicatedForm.{IndicatedForm}
+use Rattle.vd_value_rules.specs.declared.forms.IndicatedForm.{IndicatedForm}
 use Rattle.vd_meaning.specs.Facets.{Meaning, from}
 use Rattle.vd_meaning.specs.Meanings.{named_by}
 use Rattle.vd_meaning.specs.Names.{Attributed, Callee, Named, NoCallee}

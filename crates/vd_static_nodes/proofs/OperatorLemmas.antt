@@ -2,8 +2,8 @@
 use Rattle.std.proofs.Common.{◌≡◌, ◌&&◌, Bool, ap, false, not, refl, true, ◌∙◌}
 use Rattle.vd_environments.specs.Environments.{Static}
 use Rattle.vd_environments.specs.Got.{Got, is_got}
-use Rattle.vd_indicating.specs.Indicated.{static_of}
-use Rattle.vd_indicating.specs.declared.statics.StaticSort.{StaticSort}
+use Rattle.vd_value_rules.specs.Indicated.{static_of}
+use Rattle.vd_value_rules.specs.declared.statics.StaticSort.{StaticSort}
 use Rattle.vd_meaning.specs.Names.{unless_stopped}
 
 late : {A : Type 0} (local : Bool) (g : Got A) → not local ≡ true → local ≡ (local && is_got g)

@@ -7,8 +7,8 @@ use Rattle.vd_facets.specs.Roles.{read_role}
 use Rattle.vd_facets.specs.declared.roles.Role.{Role as WrittenRole}
 use Rattle.vd_facets.specs.declared.roles.Role.TheVariants as written
 use Rattle.vd_forest.specs.Forest.{Forest}
-use Rattle.vd_indicating.specs.Indicated.{static_of}
-use Rattle.vd_indicating.specs.declared.forms.IndicatedForm.{IndicatedForm}
+use Rattle.vd_value_rules.specs.Indicated.{static_of}
+use Rattle.vd_value_rules.specs.declared.forms.IndicatedForm.{IndicatedForm}
 use Rattle.vd_meaning.specs.Brackets.{argument_read, arguments_piece, by_callee, by_role, element_or_slice}
 use Rattle.vd_meaning.specs.Facets.{Meaning, nth, value_of}
 use Rattle.vd_meaning.specs.Names.{Callee, Named}

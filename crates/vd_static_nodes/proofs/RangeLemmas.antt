@@ -6,7 +6,7 @@ use Rattle.vd_composites.specs.declared.ranges.Bounds.{Bounds}
 use Rattle.vd_environments.specs.Environments.{Env, Static, both, never, unknown}
 use Rattle.vd_environments.specs.Got.{Got, is_got, senseless}
 use Rattle.vd_forest.specs.Forest.{Forest}
-use Rattle.vd_indicating.specs.declared.forms.IndicatedForm.{IndicatedForm}
+use Rattle.vd_value_rules.specs.declared.forms.IndicatedForm.{IndicatedForm}
 use Rattle.vd_meaning.specs.Facets.{Meaning, expression, known_of, nth, of_node, value_of}
 use Rattle.vd_meaning.specs.Names.{name_bounds, position_in}
 use Rattle.vd_resolved.specs.declared.node.Resolved.{Resolved}

@@ -1,7 +1,7 @@
 -- Choices, by what is known of their nodes. (IEEE 1076, aggregates; static expressions.)
 use Rattle.std.specs.Prelude.{List, None, Option, Some, map, ℕ}
 use Rattle.vd_environments.specs.Environments.{Static, all_static, always}
-use Rattle.vd_indicating.specs.Indicated.{static_of}
+use Rattle.vd_value_rules.specs.Indicated.{static_of}
 use Rattle.vd_static_entries.specs.declared.nodes.Node.{Node}
 
 -- a choice without a type makes nothing less static

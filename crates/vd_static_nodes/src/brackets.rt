@@ -4,8 +4,8 @@ ghost use Rattle.std.specs.Prelude.{◌≡◌, ◌&&◌, IfOk, List, Option, tru
 ghost use Rattle.vd_environments.specs.Environments.{Env, Signals};
 ghost use Rattle.vd_environments.specs.Got.{Got};
 ghost use Rattle.vd_forest.specs.Forest.{Forest};
-ghost use Rattle.vd_indicating.specs.Indicated.{static_of};
-ghost use Rattle.vd_indicating.specs.declared.forms.IndicatedForm.{IndicatedForm};
+ghost use Rattle.vd_value_rules.specs.Indicated.{static_of};
+ghost use Rattle.vd_value_rules.specs.declared.forms.IndicatedForm.{IndicatedForm};
 ghost use Rattle.vd_meaning.specs.Brackets.{arguments_for, by_role, called_with as called_function, element_or_slice as index_or_range, operation_called};
 ghost use Rattle.vd_meaning.specs.Facets.{Meaning, known_of as known_in, nth, value_of};
 ghost use Rattle.vd_meaning.specs.Kinds;
@@ -26,7 +26,6 @@ use std::alloc::{AllocError, Global};
 use vd_composites::Value;
 use vd_facets::{Role, role_of};
 use vd_given::numbers::{STD_LOGIC_VECTOR, STD_ULOGIC_VECTOR};
-use vd_indicating::StaticSort;
 use vd_operations::tables::{followed, is_predefined, parameters_of};
 use vd_operations::{Operation, operation_of};
 use vd_resolved::Resolved;
@@ -38,6 +37,7 @@ use vd_static_parts::conversion;
 use vd_static_parts::nodes::piece;
 use vd_static_parts::numbers::{mark_number, number_or};
 use vd_static_parts::parts::{first_known, first_range, known_of};
+use vd_value_rules::StaticSort;
 
 // ---- calls
 

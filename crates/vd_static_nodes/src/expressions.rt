@@ -2,7 +2,7 @@
 
 ghost use Rattle.std.specs.Prelude.{IfOk, List};
 ghost use Rattle.vd_forest.specs.Forest.{Forest};
-ghost use Rattle.vd_indicating.specs.declared.forms.IndicatedForm.{IndicatedForm};
+ghost use Rattle.vd_value_rules.specs.declared.forms.IndicatedForm.{IndicatedForm};
 ghost use Rattle.vd_meaning.specs.Kinds.{Brackets, Operator};
 ghost use Rattle.vd_static_entries.specs.declared.entries.Ground.{Ground as GroundOf};
 ghost use Rattle.vd_static_names.specs.Known.{HasSubtypes};

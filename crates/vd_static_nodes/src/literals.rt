@@ -3,8 +3,8 @@
 ghost use Rattle.std.specs.Prelude.{◌≡◌, IfOk, List};
 ghost use Rattle.vd_environments.specs.Environments.{Env, all_bounds};
 ghost use Rattle.vd_forest.specs.Forest.{Forest};
-ghost use Rattle.vd_indicating.specs.Indicated.{static_of};
-ghost use Rattle.vd_indicating.specs.declared.forms.IndicatedForm.{IndicatedForm};
+ghost use Rattle.vd_value_rules.specs.Indicated.{static_of};
+ghost use Rattle.vd_value_rules.specs.declared.forms.IndicatedForm.{IndicatedForm};
 ghost use Rattle.vd_meaning.specs.Kinds.{CharacterLiteral, NumberLiteral, StringLiteral, TimeLiteral};
 ghost use Rattle.vd_meaning.specs.Meanings.{string_value as value_of_string};
 ghost use Rattle.vd_meaning.specs.Names.{number_or};
@@ -18,7 +18,6 @@ use crate::firsts::first_piece;
 use std::alloc::{AllocError, Global};
 use vd_composites::Value;
 use vd_declarations::TypeId;
-use vd_indicating::StaticSort;
 use vd_resolved::Resolved;
 use vd_static_entries::{Ground, Node};
 use vd_static_names::firsts::literal;
@@ -28,6 +27,7 @@ use vd_static_parts::nodes::{expression, with_name};
 use vd_static_parts::numbers::mark_number;
 use vd_static_parts::parts::text_of;
 use vd_static_values::{integer, physical, string};
+use vd_value_rules::StaticSort;
 
 // ---- characters and strings
 

@@ -3,7 +3,7 @@
 ghost use Rattle.std.specs.Prelude.{◌≡◌, All, IfOk, List, true};
 ghost use Rattle.vd_environments.specs.Environments.{Env};
 ghost use Rattle.vd_forest.specs.Forest.{Forest};
-ghost use Rattle.vd_indicating.specs.declared.forms.IndicatedForm.{IndicatedForm};
+ghost use Rattle.vd_value_rules.specs.declared.forms.IndicatedForm.{IndicatedForm};
 ghost use Rattle.vd_meaning.specs.Facets.{Meaning, nth, value_of};
 ghost use Rattle.vd_static_entries.specs.Entries.{IsFound};
 ghost use Rattle.vd_static_entries.specs.Names.{IsName};

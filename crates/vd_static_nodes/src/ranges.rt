@@ -7,8 +7,8 @@ ghost use Rattle.vd_composites.specs.declared.ranges.Bounds.{Bounds as BoundsFou
 ghost use Rattle.vd_environments.specs.Environments.{Env, Static};
 ghost use Rattle.vd_environments.specs.Got.{Got};
 ghost use Rattle.vd_forest.specs.Forest.{Forest};
-ghost use Rattle.vd_indicating.specs.Indicated.{static_of};
-ghost use Rattle.vd_indicating.specs.declared.forms.IndicatedForm.{IndicatedForm};
+ghost use Rattle.vd_value_rules.specs.Indicated.{static_of};
+ghost use Rattle.vd_value_rules.specs.declared.forms.IndicatedForm.{IndicatedForm};
 ghost use Rattle.vd_meaning.specs.Facets.{Meaning, known_of as known_in, nth};
 ghost use Rattle.vd_meaning.specs.Kinds.{Constraint, Limits, LimitsOfMark};
 ghost use Rattle.vd_meaning.specs.Meanings.{limits as limits_between, limits_of_mark as limits_within};
@@ -25,13 +25,13 @@ use crate::subtypes::{fits, name_bounds};
 use std::alloc::{AllocError, Global};
 use vd_composites::{Bounds, Value};
 use vd_forest::Store;
-use vd_indicating::{IndicatedForm as Form, StaticSort};
 use vd_resolved::Resolved;
 use vd_static_entries::{Ground, KnownName, Node, Ranging, Sense};
 use vd_static_names::values::unless_stopped;
 use vd_static_parts::nodes::expression;
 use vd_static_parts::parts::{first_known, first_range, known_of};
 use vd_static_values::position;
+use vd_value_rules::{IndicatedForm as Form, StaticSort};
 
 // ---- limits
 

@@ -7,9 +7,9 @@ use Rattle.vd_composites.specs.declared.scalars.ScalarSubtype.{ScalarSubtype}
 use Rattle.vd_environments.specs.Environments.{Env, Make, OfElements, OfFields, OfScalar, Static, own_bounds}
 use Rattle.vd_environments.specs.Got.{Got, got, is_got}
 use Rattle.vd_forest.specs.Forest.{Forest}
-use Rattle.vd_indicating.specs.Indicated.{static_of}
-use Rattle.vd_indicating.specs.declared.forms.IndicatedForm.{IndicatedForm}
-use Rattle.vd_indicating.specs.declared.statics.StaticSort.{StaticSort}
+use Rattle.vd_value_rules.specs.Indicated.{static_of}
+use Rattle.vd_value_rules.specs.declared.forms.IndicatedForm.{IndicatedForm}
+use Rattle.vd_value_rules.specs.declared.statics.StaticSort.{StaticSort}
 use Rattle.vd_meaning.specs.Names.{Named, bound_of_mark, bound_value, bounds_known, name_bounds, scalar_type, scalars_of}
 use Rattle.vd_meaning.specs.Names as names
 use Rattle.vd_operators.specs.Applied.{applied}

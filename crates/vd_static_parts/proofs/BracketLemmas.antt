@@ -5,7 +5,7 @@ use Rattle.vd_composites.specs.Subtypes.{Subtype}
 use Rattle.vd_environments.specs.Environments.{Env, Static, only_global}
 use Rattle.vd_environments.specs.Got.{Got}
 use Rattle.vd_forest.specs.Forest.{Forest}
-use Rattle.vd_indicating.specs.declared.forms.IndicatedForm.{IndicatedForm}
+use Rattle.vd_value_rules.specs.declared.forms.IndicatedForm.{IndicatedForm}
 use Rattle.vd_meaning.specs.Brackets.{aggregate, bracketed_known, bracketed_value, is_positional}
 use Rattle.vd_meaning.specs.Facets.{Meaning, known_of}
 use Rattle.vd_meaning.specs.Facets as facets

@@ -4,7 +4,7 @@ use Rattle.vd_composites.specs.Composites.{Value}
 use Rattle.vd_environments.specs.Environments.{Argument, Env, Indicated, Static, always, only_global}
 use Rattle.vd_environments.specs.Got.{Got, is_got}
 use Rattle.vd_forest.specs.Store.{at}
-use Rattle.vd_indicating.specs.Indicated.{indicated_in}
+use Rattle.vd_value_rules.specs.Indicated.{indicated_in}
 use Rattle.vd_meaning.specs.Names.{calls_known}
 use Rattle.vd_meaning.specs.Operators.{Operation, function_of, is_local_of, operate, operation, symbol}
 use Rattle.vd_meaning.specs.Tables.{Table, is_brought, is_predefined, operand_types}

@@ -5,8 +5,8 @@ use Rattle.std.proofs.lemmas.List.{map-append, take_more}
 use Rattle.vd_composites.specs.Composites.{Value}
 use Rattle.vd_environments.specs.Environments.{Env, Static, all_static, always, both, unknown}
 use Rattle.vd_forest.specs.Forest.{Forest}
-use Rattle.vd_indicating.specs.Indicated.{static_of}
-use Rattle.vd_indicating.specs.declared.forms.IndicatedForm.{IndicatedForm}
+use Rattle.vd_value_rules.specs.Indicated.{static_of}
+use Rattle.vd_value_rules.specs.declared.forms.IndicatedForm.{IndicatedForm}
 use Rattle.vd_meaning.specs.Facets.{Meaning, arguments, known_of}
 use Rattle.vd_static_entries.specs.Nodes.{AreNodes}
 use Rattle.vd_static_entries.specs.declared.nodes.Node.{Node}

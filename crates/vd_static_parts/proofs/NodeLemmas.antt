@@ -6,7 +6,7 @@ use Rattle.vd_environments.specs.Commands.{Command}
 use Rattle.vd_environments.specs.Environments.{Env}
 use Rattle.vd_environments.specs.Got.{Got}
 use Rattle.vd_forest.specs.Forest.{Forest}
-use Rattle.vd_indicating.specs.declared.forms.IndicatedForm.{IndicatedForm}
+use Rattle.vd_value_rules.specs.declared.forms.IndicatedForm.{IndicatedForm}
 use Rattle.vd_meaning.specs.Facets.{Comparison, Meaning, Waveform, expression}
 use Rattle.vd_meaning.specs.Meanings.{whole_name}
 use Rattle.vd_meaning.specs.Names.{Named}

@@ -2,8 +2,8 @@
 use Rattle.std.proofs.Common.{◌≡◌, ◌&&◌, ◌∙◌, Bool, None, Option, Some, ap, false, is_some, not, refl, sym, true}
 use Rattle.vd_environments.specs.Environments.{Static}
 use Rattle.vd_environments.specs.Got.{Got, is_got}
-use Rattle.vd_indicating.specs.Indicated.{static_of}
-use Rattle.vd_indicating.specs.declared.statics.StaticSort.{StaticSort}
+use Rattle.vd_value_rules.specs.Indicated.{static_of}
+use Rattle.vd_value_rules.specs.declared.statics.StaticSort.{StaticSort}
 use Rattle.vd_meaning.specs.Names.{unless_stopped}
 use Rattle.vd_static_entries.specs.Entries.{IsFound}
 

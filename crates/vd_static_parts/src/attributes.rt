@@ -16,12 +16,12 @@ use crate::named::{NameAttribute, attribute_named};
 use std::alloc::{AllocError, Global};
 use vd_composites::{Bounds, ScalarType, Value};
 use vd_declarations::TypeId;
-use vd_indicating::StaticSort;
 use vd_operators::Side;
 use vd_static_entries::{Ground, KnownName, TypeAttribute};
 use vd_static_names::subtypes::scalar_of;
 use vd_static_names::values::{fresh, no_name, range};
 use vd_static_values::{array_bound, array_length, range_of_array, scalar_bound};
+use vd_value_rules::StaticSort;
 
 // ---- by the bounds of an array
 

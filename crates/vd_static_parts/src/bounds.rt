@@ -2,7 +2,7 @@
 
 ghost use Rattle.std.specs.Prelude.{◌≡◌};
 ghost use Rattle.vd_environments.specs.Environments.{Env};
-ghost use Rattle.vd_indicating.specs.Indicated.{static_of};
+ghost use Rattle.vd_value_rules.specs.Indicated.{static_of};
 ghost use Rattle.vd_meaning.specs.Names.{Named, bounds_known as known_of_bounds, scalar_type as type_of_mark};
 ghost use Rattle.vd_static_entries.specs.Entries.{IsFound, IsGround};
 ghost use Rattle.vd_static_entries.specs.Names.{IsName};
@@ -11,11 +11,11 @@ ghost use Rattle.vd_static_names.specs.Known.{HasSubtypes, IsWithin};
 use vd_composites::ScalarType;
 use vd_declarations::TypeId;
 use vd_forest::Store;
-use vd_indicating::subtypes::scalar;
-use vd_indicating::{IndicatedForm, StaticSort};
 use vd_static_entries::{Ground, KnownName};
 use vd_static_names::grounds::subtype_of;
 use vd_static_names::subtypes::own_bounds;
+use vd_value_rules::subtypes::scalar;
+use vd_value_rules::{IndicatedForm, StaticSort};
 
 /// How static the bounds of a name are.
 pub fn bounds_known(subtypes: &Store<IndicatedForm>, name: &KnownName) -> StaticSort

@@ -5,8 +5,8 @@ ghost use Rattle.vd_composites.specs.Subtypes.{Subtype};
 ghost use Rattle.vd_environments.specs.Environments.{Env};
 ghost use Rattle.vd_environments.specs.Got.{Got};
 ghost use Rattle.vd_forest.specs.Forest.{Forest};
-ghost use Rattle.vd_indicating.specs.Indicated.{static_of};
-ghost use Rattle.vd_indicating.specs.declared.forms.IndicatedForm.{IndicatedForm};
+ghost use Rattle.vd_value_rules.specs.Indicated.{static_of};
+ghost use Rattle.vd_value_rules.specs.declared.forms.IndicatedForm.{IndicatedForm};
 ghost use Rattle.vd_meaning.specs.Brackets.{bracketed_known as known_of_brackets, bracketed_value as value_of_brackets};
 ghost use Rattle.vd_meaning.specs.Facets.{Meaning};
 ghost use Rattle.vd_static_entries.specs.Entries.{IsFound};
@@ -15,9 +15,9 @@ ghost use Rattle.vd_static_entries.specs.Nodes.{AreNodes, IsNode};
 use crate::parts::known_of;
 use std::alloc::{AllocError, Global};
 use vd_composites::Value;
-use vd_indicating::StaticSort;
 use vd_static_entries::{Association, Node};
 use vd_static_names::copies::value_again;
+use vd_value_rules::StaticSort;
 
 /// How static a list in brackets with one part is.
 fn alone_known(only: &Node<'_>) -> StaticSort

@@ -3,7 +3,7 @@
 ghost use Rattle.std.specs.Prelude.{◌≡◌, ◌≤◌, IfOk, List, length, true};
 ghost use Rattle.vd_environments.specs.Environments.{Argument, Env};
 ghost use Rattle.vd_forest.specs.Store.{at};
-ghost use Rattle.vd_indicating.specs.Indicated.{indicated_in};
+ghost use Rattle.vd_value_rules.specs.Indicated.{indicated_in};
 ghost use Rattle.vd_meaning.specs.Names.{calls_known};
 ghost use Rattle.vd_meaning.specs.Operators.{function_of, operate as operate_at, operation};
 ghost use Rattle.vd_static_entries.specs.Entries.{IsFound, IsGround, entry_at, table_of};

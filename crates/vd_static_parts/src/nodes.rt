@@ -6,8 +6,8 @@ ghost use Rattle.vd_composites.specs.Subtypes.{Subtype};
 ghost use Rattle.vd_environments.specs.Environments.{Env, Static};
 ghost use Rattle.vd_environments.specs.Got.{Got};
 ghost use Rattle.vd_forest.specs.Forest.{Forest};
-ghost use Rattle.vd_indicating.specs.Indicated.{static_of};
-ghost use Rattle.vd_indicating.specs.declared.forms.IndicatedForm.{IndicatedForm};
+ghost use Rattle.vd_value_rules.specs.Indicated.{static_of};
+ghost use Rattle.vd_value_rules.specs.declared.forms.IndicatedForm.{IndicatedForm};
 ghost use Rattle.vd_meaning.specs.Facets.{Meaning, expression as expression_meant, no_meaning, of_node};
 ghost use Rattle.vd_meaning.specs.Meanings.{piece_of, whole_name};
 ghost use Rattle.vd_meaning.specs.Names.{Named};
@@ -20,11 +20,11 @@ ghost use Rattle.vd_values.specs.declared.scalar.Scalar.{Scalar};
 
 use std::alloc::{AllocError, Global};
 use vd_composites::Value;
-use vd_indicating::StaticSort;
 use vd_resolved::Resolved;
 use vd_static_entries::{Association, KnownName, Node, Piece, Ranging, Sense};
 use vd_static_names::copies::value_again;
 use vd_static_names::values::no_name;
+use vd_value_rules::StaticSort;
 
 /// A node of which nothing is known but what it says itself.
 pub fn plain<'a>(alloc: Global, node: Resolved, text: &'a [u8]) -> Node<'a>

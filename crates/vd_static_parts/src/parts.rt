@@ -3,8 +3,8 @@
 ghost use Rattle.std.specs.Prelude.{◌≡◌, IfOk, List, true};
 ghost use Rattle.vd_environments.specs.Environments.{Env};
 ghost use Rattle.vd_forest.specs.Forest.{Forest};
-ghost use Rattle.vd_indicating.specs.Indicated.{static_of};
-ghost use Rattle.vd_indicating.specs.declared.forms.IndicatedForm.{IndicatedForm};
+ghost use Rattle.vd_value_rules.specs.Indicated.{static_of};
+ghost use Rattle.vd_value_rules.specs.declared.forms.IndicatedForm.{IndicatedForm};
 ghost use Rattle.vd_meaning.specs.Facets.{Meaning, arguments, known_of as known_in, nth};
 ghost use Rattle.vd_static_entries.specs.Names.{IsRanging};
 ghost use Rattle.vd_static_entries.specs.Nodes.{AreNodes};
@@ -12,9 +12,9 @@ ghost use Rattle.vd_static_values.specs.Operands.{AreOperands};
 
 use std::alloc::{AllocError, Global};
 use vd_composites::Value;
-use vd_indicating::StaticSort;
 use vd_static_entries::{Node, Ranging};
 use vd_static_names::copies::value_again;
+use vd_value_rules::StaticSort;
 
 // ---- all parts
 

@@ -4,7 +4,7 @@ ghost use Rattle.std.specs.Prelude.{◌≡◌, ℕ, IfOk, List, Option, true};
 ghost use Rattle.vd_composites.specs.Composites.{Value as AnyValue};
 ghost use Rattle.vd_environments.specs.Environments.{Env, Signals, Static, both};
 ghost use Rattle.vd_environments.specs.Got.{Got};
-ghost use Rattle.vd_indicating.specs.Indicated.{static_of};
+ghost use Rattle.vd_value_rules.specs.Indicated.{static_of};
 ghost use Rattle.vd_meaning.specs.Names.{Attributed, Named, TypeAttribute as AttributeOfType, fresh as fresh_named, type_attribute_value as value_of_attribute};
 ghost use Rattle.vd_static_entries.specs.Entries.{IsFound};
 ghost use Rattle.vd_static_entries.specs.Names.{IsName, type_attribute as attribute_of_type};
@@ -13,11 +13,11 @@ ghost use Rattle.vd_values.specs.declared.scalar.Scalar.{Scalar};
 
 use std::alloc::{AllocError, Global};
 use vd_composites::Value;
-use vd_indicating::StaticSort;
 use vd_static_entries::{Ground, KnownName, TypeAttribute};
 use vd_static_names::subtypes::{scalar_number, scalar_of};
 use vd_static_names::values::{fresh, no_name};
 use vd_static_values::type_attribute;
+use vd_value_rules::StaticSort;
 
 /// The value of an attribute of a locally static name.
 fn attribute_value(

@@ -8,8 +8,8 @@ use Rattle.vd_facets.proofs.PassingLemmas.{nth_skipped}
 use Rattle.vd_forest.specs.Forest.{Forest, more, nothing, parts_of, skipped}
 use Rattle.vd_forms.specs.declared.form.Form.{Form}
 use Rattle.vd_forms.specs.declared.form.Form.TheVariants as form
-use Rattle.vd_indicating.specs.Indicated.{static_of}
-use Rattle.vd_indicating.specs.declared.statics.StaticSort.{StaticSort}
+use Rattle.vd_value_rules.specs.Indicated.{static_of}
+use Rattle.vd_value_rules.specs.declared.statics.StaticSort.{StaticSort}
 use Rattle.vd_least.proofs.LeastLaws.{least_of_append}
 use Rattle.vd_least.specs.Least.{least_of, lesser}
 use Rattle.vd_meaning.specs.Facets.{Meaning, nth}

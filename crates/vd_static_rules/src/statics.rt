@@ -4,7 +4,7 @@
 ghost use Rattle.std.specs.Prelude.{◌≡◌, ◌∷◌, IfOk, List, OnOk};
 ghost use Rattle.vd_environments.specs.Environments.{is_static as known_in_elaboration};
 ghost use Rattle.vd_forms.specs.declared.form.Form.TheVariants.{PackageInstantiation};
-ghost use Rattle.vd_indicating.specs.Indicated.{static_of};
+ghost use Rattle.vd_value_rules.specs.Indicated.{static_of};
 ghost use Rattle.vd_known_designs.specs.Designs.{IsReady, Knows};
 ghost use Rattle.vd_known_indications.specs.Places.{Finds};
 ghost use Rattle.vd_least.specs.Least.{least_of};
@@ -28,7 +28,6 @@ use vd_declarations::{Class, DeclId, Declaration};
 use vd_facets::{declaration_of, is_present};
 use vd_forest::{Cursor, Opened};
 use vd_forms::Form;
-use vd_indicating::StaticSort;
 use vd_known_designs::KnownDesign;
 use vd_known_indications::{Surroundings, node};
 use vd_least::lesser;
@@ -36,6 +35,7 @@ use vd_operations::class_of;
 use vd_port_modes::Interfaces;
 use vd_resolved::Resolved;
 use vd_rule_groups::{Firsts, refused_if};
+use vd_value_rules::StaticSort;
 
 /// Whether something is known in elaboration.
 fn is_static(known: StaticSort) -> bool

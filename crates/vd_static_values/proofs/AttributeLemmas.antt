@@ -8,8 +8,8 @@ use Rattle.vd_environments.specs.Got.{got, is_got}
 use Rattle.vd_bytes.specs.declared.places.Place.{Place}
 use Rattle.vd_forest.proofs.ForestLemmas.{skipped_nothing}
 use Rattle.vd_forest.specs.Forest.{Forest, form_of, more, nothing, skipped}
-use Rattle.vd_indicating.specs.Indicated.{texts_in}
-use Rattle.vd_indicating.specs.declared.forms.IndicatedForm.{IndicatedForm}
+use Rattle.vd_value_rules.specs.Indicated.{texts_in}
+use Rattle.vd_value_rules.specs.declared.forms.IndicatedForm.{IndicatedForm}
 use Rattle.vd_meaning.specs.Names.{image}
 use Rattle.vd_meaning.specs.Operators.{literal_of}
 use Rattle.vd_operators.specs.Texts.{text}

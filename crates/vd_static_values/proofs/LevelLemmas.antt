@@ -12,8 +12,8 @@ use Rattle.vd_composites.specs.declared.ranges.Bounds.{Bounds}
 use Rattle.vd_composites.specs.declared.scalars.ScalarSubtype.{ScalarSubtype}
 use Rattle.vd_environments.specs.Environments.{Indicated, element_make}
 use Rattle.vd_environments.specs.Got.{Got, all_got, got, is_got}
-use Rattle.vd_indicating.specs.Indicated.{element_indicated, index_of}
-use Rattle.vd_indicating.specs.Found.{found}
+use Rattle.vd_value_rules.specs.Indicated.{element_indicated, index_of}
+use Rattle.vd_value_rules.specs.Found.{found}
 use Rattle.vd_meaning.specs.Names.{all_converted, converted, element_of_subtype, whole_converted, with_elements}
 use Rattle.vd_value_rules.specs.Lengths.{or_none}
 use Rattle.vd_static_entries.specs.Entries.{IsFound}

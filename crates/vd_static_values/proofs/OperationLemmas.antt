@@ -6,7 +6,7 @@ use Rattle.vd_composites.specs.Stops.{OrStop, ◌>>=◌}
 use Rattle.vd_composites.specs.Subtypes.{Subtype}
 use Rattle.vd_environments.specs.Environments.{Argument, Env, unknown}
 use Rattle.vd_environments.specs.Got.{Got, got}
-use Rattle.vd_indicating.specs.Found.{found}
+use Rattle.vd_value_rules.specs.Found.{found}
 use Rattle.vd_meaning.specs.Operators.{Apply, Edge, Join, Lazily, NoOperation, Operation, TruthText, arguments_of, decided, decides, joining, lazily, operate, truth_text}
 use Rattle.vd_operators.specs.Applied.{applied}
 use Rattle.vd_operators.specs.declared.op.BinaryOp.TheVariants as two

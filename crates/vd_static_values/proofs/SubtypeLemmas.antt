@@ -2,9 +2,9 @@
 use Rattle.std.proofs.Common.{refl, ◌≡◌}
 use Rattle.vd_environments.specs.Environments.{element_make, literals_of}
 use Rattle.vd_forest.specs.Forest.{Forest, more, nothing}
-use Rattle.vd_indicating.specs.Indicated.{element_indicated, indicated_in}
-use Rattle.vd_indicating.specs.declared.forms.IndicatedForm.{IndicatedForm}
-use Rattle.vd_indicating.specs.declared.forms.IndicatedForm.TheVariants as form
+use Rattle.vd_value_rules.specs.Indicated.{element_indicated, indicated_in}
+use Rattle.vd_value_rules.specs.declared.forms.IndicatedForm.{IndicatedForm}
+use Rattle.vd_value_rules.specs.declared.forms.IndicatedForm.TheVariants as form
 
 -- the literals of an array's elements
 pub element_literals : (f : Forest IndicatedForm) → literals_of (element_indicated (indicated_in f)).make ≡ literals_of (element_make (indicated_in f).make)

@@ -4,7 +4,7 @@ ghost use Rattle.std.specs.Prelude.{◌≡◌, [], ◌∷◌, IfOk, pos};
 ghost use Rattle.vd_composites.specs.Ranges.{length_of, reversed as turned};
 ghost use Rattle.vd_composites.specs.Scalars.{whole_range as all_values};
 ghost use Rattle.vd_environments.specs.Got.{got};
-ghost use Rattle.vd_indicating.specs.Indicated.{indicated_in, texts_in};
+ghost use Rattle.vd_value_rules.specs.Indicated.{indicated_in, texts_in};
 ghost use Rattle.vd_integers.specs.Integers.{integer_of};
 ghost use Rattle.vd_meaning.specs.Names.{bare, image as image_of, of_type};
 ghost use Rattle.vd_operators.specs.Applied.{applied};
@@ -18,14 +18,14 @@ use crate::finding::found;
 use std::alloc::{AllocError, Global};
 use vd_composites::{Bounds, ScalarSubtype, ScalarType, Value};
 use vd_forest::Cursor;
-use vd_indicating::IndicatedForm;
-use vd_indicating::part_facts::literals;
 use vd_operators::arithmetic::integer_answer;
 use vd_operators::attributes::{discrete, subtype_bound};
 use vd_operators::texts::write_text;
 use vd_operators::{DiscreteAttribute, Side, TextOperator};
 use vd_plain_values::operators::text;
 use vd_static_entries::TypeAttribute;
+use vd_value_rules::IndicatedForm;
+use vd_value_rules::part_facts::literals;
 use vd_values::{Scalar, StopKind};
 
 /// 'left, 'right, 'high or 'low of a scalar subtype.

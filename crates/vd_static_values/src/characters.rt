@@ -2,15 +2,15 @@
 
 ghost use Rattle.std.specs.Prelude.{◌≡◌, IfOk, List, length, ℕ};
 ghost use Rattle.vd_environments.specs.Environments.{element_make, literals_of};
-ghost use Rattle.vd_indicating.specs.Indicated.{indicated_in, texts_in};
+ghost use Rattle.vd_value_rules.specs.Indicated.{indicated_in, texts_in};
 ghost use Rattle.vd_plain_values.specs.Strings.{places_in};
 ghost use Rattle.vd_static_values.specs.Characters.{HasCharacters, IsCharacter, IsEntered};
 ghost use Rattle.vd_static_values.specs.Finding.{IsListFound};
 
 use std::alloc::{AllocError, Global};
 use vd_forest::Cursor;
-use vd_indicating::IndicatedForm;
-use vd_indicating::part_facts::{element, literals};
+use vd_value_rules::IndicatedForm;
+use vd_value_rules::part_facts::{element, literals};
 
 /// The code of the character that a literal is.
 fn character_of(literal: &[u8]) -> Option<u8>

@@ -2,7 +2,7 @@
 //! are.
 
 ghost use Rattle.std.specs.Prelude.{IfOk};
-ghost use Rattle.vd_indicating.specs.Indicated.{indicated_in};
+ghost use Rattle.vd_value_rules.specs.Indicated.{indicated_in};
 ghost use Rattle.vd_meaning.specs.Names.{converted};
 ghost use Rattle.vd_static_entries.specs.Entries.{IsFound};
 ghost use Rattle.vd_static_values.specs.Finding.{IsListFound};
@@ -15,10 +15,10 @@ use crate::regrouping::closed;
 use std::alloc::{AllocError, Global};
 use vd_composites::Value;
 use vd_forest::Cursor;
-use vd_indicating::IndicatedForm;
-use vd_indicating::array_facts::index;
-use vd_indicating::part_facts::element;
-use vd_indicating::subtypes::head;
+use vd_value_rules::IndicatedForm;
+use vd_value_rules::array_facts::index;
+use vd_value_rules::part_facts::element;
+use vd_value_rules::subtypes::head;
 
 /// Arrays of arrays: those of each level but the innermost, the outermost level first, and the values of the innermost.
 #[derive(Drop)]

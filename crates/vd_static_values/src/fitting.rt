@@ -3,7 +3,7 @@
 ghost use Rattle.std.specs.Prelude.{IfOk};
 ghost use Rattle.vd_composites.specs.Subtypes.{fit as made_one_of};
 ghost use Rattle.vd_environments.specs.Got.{got};
-ghost use Rattle.vd_indicating.specs.Indicated.{indicated_in};
+ghost use Rattle.vd_value_rules.specs.Indicated.{indicated_in};
 ghost use Rattle.vd_meaning.specs.Names.{whole_converted};
 ghost use Rattle.vd_static_entries.specs.Entries.{IsFound};
 
@@ -11,8 +11,8 @@ use crate::finding::found;
 use std::alloc::{AllocError, Global};
 use vd_composites::Value;
 use vd_forest::Cursor;
-use vd_indicating::IndicatedForm;
-use vd_indicating::subtypes::head;
+use vd_value_rules::IndicatedForm;
+use vd_value_rules::subtypes::head;
 
 /// The value made one of a subtype; its elements and fields stay as they are.
 pub fn fit(

@@ -1,7 +1,7 @@
 //! Literals. (IEEE 1076, lexical elements; literals; physical types.)
 
 ghost use Rattle.std.specs.Prelude.{IfOk, Ok};
-ghost use Rattle.vd_indicating.specs.Indicated.{indicated_in};
+ghost use Rattle.vd_value_rules.specs.Indicated.{indicated_in};
 ghost use Rattle.vd_meaning.specs.Literals.{integer as integer_value, number as number_of, physical as physical_value, string as string_value};
 ghost use Rattle.vd_static_entries.specs.Entries.{IsFound};
 
@@ -11,9 +11,9 @@ use crate::subtypes::array_head;
 use std::alloc::{AllocError, Global};
 use vd_composites::Value;
 use vd_forest::Cursor;
-use vd_indicating::IndicatedForm;
 use vd_plain_values::literals::{number, time};
 use vd_plain_values::strings::array_at;
+use vd_value_rules::IndicatedForm;
 use vd_values::Scalar;
 
 /// An integer literal. A number that INTEGER doesn't have is answered as want of memory; the rules of the lexis keep literals within it.

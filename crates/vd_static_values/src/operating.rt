@@ -2,7 +2,7 @@
 
 ghost use Rattle.std.specs.Prelude.{◌≡◌, IfOk, List};
 ghost use Rattle.vd_environments.specs.Environments.{Argument};
-ghost use Rattle.vd_indicating.specs.Indicated.{indicated_in};
+ghost use Rattle.vd_value_rules.specs.Indicated.{indicated_in};
 ghost use Rattle.vd_operations.specs.Readings.{read_operation};
 ghost use Rattle.vd_static_entries.specs.Entries.{IsFound, operate_on as operate_of_subtype};
 ghost use Rattle.vd_static_values.specs.Operands.{AreOperands, stopping};
@@ -12,9 +12,9 @@ use crate::subtypes::array_head;
 use std::alloc::{AllocError, Global};
 use vd_composites::Value;
 use vd_forest::Cursor;
-use vd_indicating::IndicatedForm;
 use vd_operations::Operation;
 use vd_plain_values::operators::operate_on;
+use vd_value_rules::IndicatedForm;
 use vd_values::StopKind;
 
 /// The operands again, with a stop where there is no value.

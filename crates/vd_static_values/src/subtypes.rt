@@ -1,14 +1,14 @@
 //! Array subtypes as trees.
 
 ghost use Rattle.std.specs.Prelude.{◌≡◌, IfOk};
-ghost use Rattle.vd_indicating.specs.Indicated.{indicated_in};
+ghost use Rattle.vd_value_rules.specs.Indicated.{indicated_in};
 ghost use Rattle.vd_plain_values.specs.Plain.{array_in};
 
 use std::alloc::AllocError;
 use vd_forest::Cursor;
-use vd_indicating::IndicatedForm;
-use vd_indicating::subtypes::head;
 use vd_plain_values::environment::ArrayHead;
+use vd_value_rules::IndicatedForm;
+use vd_value_rules::subtypes::head;
 
 /// The array subtype that a subtype is.
 pub(crate) fn array_head(

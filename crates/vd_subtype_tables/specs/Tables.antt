@@ -2,10 +2,10 @@
 use Rattle.std.specs.Prelude.{Bool, List, if◌then◌else◌, ℕ}
 use Rattle.vd_environments.specs.Environments.{Indicated, made_inside}
 use Rattle.vd_forest.specs.Forest.{Forest}
-use Rattle.vd_indicating.specs.Bounds.{IsTableOf}
-use Rattle.vd_indicating.specs.declared.bounds.TreeBounds.{TreeBounds}
-use Rattle.vd_indicating.specs.declared.forms.IndicatedForm.{IndicatedForm}
-use Rattle.vd_indicating.specs.Inside.{AreInside}
+use Rattle.vd_value_rules.specs.TreeBounds.{IsTableOf}
+use Rattle.vd_value_rules.specs.declared.bounds.TreeBounds.{TreeBounds}
+use Rattle.vd_value_rules.specs.declared.forms.IndicatedForm.{IndicatedForm}
+use Rattle.vd_value_rules.specs.Inside.{AreInside}
 
 -- two tables are of these trees
 pub record AreTables (inside : List ℕ) (bounds : List TreeBounds) (forests : List (Forest IndicatedForm)) : Type 0 where

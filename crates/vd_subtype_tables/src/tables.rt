@@ -3,8 +3,8 @@
 ghost use Rattle.std.specs.Prelude.{◌≡◌, ◌∷◌, ◌≤◌, [], IfOk, length, reverse};
 ghost use Rattle.vd_environments.specs.Environments.{all_bounds as all_bounds_made};
 ghost use Rattle.vd_forest.specs.Store.{Extends, at};
-ghost use Rattle.vd_indicating.specs.Indicated.{array_indicated, fields_in, indicated_in, static_of, texts_in};
-ghost use Rattle.vd_indicating.specs.Made.{Indicates, indexed_by, narrowed_for, object_of, ranging, scalar_indicated, slice_of};
+ghost use Rattle.vd_value_rules.specs.Indicated.{array_indicated, fields_in, indicated_in, static_of, texts_in};
+ghost use Rattle.vd_value_rules.specs.Made.{Indicates, indexed_by, narrowed_for, object_of, ranging, scalar_indicated, slice_of};
 ghost use Rattle.vd_meaning.specs.Declarations.{enumeration as enumeration_of, record_type as type_of_records};
 ghost use Rattle.vd_subtype_tables.specs.Tables.{declared_in as as_declared};
 ghost use Rattle.vd_value_rules.specs.Knowledge.{array_or_later};
@@ -13,8 +13,8 @@ use std::alloc::{AllocError, Global};
 use std::marker::Model;
 use vd_composites::{Bounds, ScalarSubtype};
 use vd_forest::Store;
-use vd_indicating::inside::InsideTable;
-use vd_indicating::{
+use vd_value_rules::inside::InsideTable;
+use vd_value_rules::{
     BoundsTable, IndicatedForm, StaticSort, arrays, constraints, objects, parts, types,
 };
 
@@ -31,8 +31,8 @@ impl Model for SubtypeTables {
     ghost use Rattle.std.specs.Coded.{coded_list};
     ghost use Rattle.vd_forest.specs.Code.{coded_forest};
     ghost use Rattle.vd_forest.specs.Forest.{Forest};
-    ghost use Rattle.vd_indicating.specs.contracts.forms.IndicatedForm as forms;
-    ghost use Rattle.vd_indicating.specs.declared.forms.IndicatedForm.{IndicatedForm as Form};
+    ghost use Rattle.vd_value_rules.specs.contracts.forms.IndicatedForm as forms;
+    ghost use Rattle.vd_value_rules.specs.declared.forms.IndicatedForm.{IndicatedForm as Form};
     ghost use Rattle.vd_subtype_tables.specs.Tables.{AreTables};
 
     ghost Value = { List (Forest Form) };

@@ -22,7 +22,6 @@ use vd_declarations::{Class, DeclId};
 use vd_facets::{declaration_of, number_made};
 use vd_forest::{Cursor, Opened};
 use vd_forms::Form;
-use vd_indicating::subtypes::has_bounds;
 use vd_known_actuals::{actual_mark, generics_of};
 use vd_known_designs::KnownDesign;
 use vd_known_indications::Surroundings;
@@ -35,6 +34,7 @@ use vd_static_rules::elements::{
     first_number, formal_of_element, further_numbers, place_of_actual,
 };
 use vd_trees::Revision;
+use vd_value_rules::subtypes::has_bounds;
 
 /// Whether declarations of a class are types that are generics.
 fn is_type_generic(class: Class) -> bool

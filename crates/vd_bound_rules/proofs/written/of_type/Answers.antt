@@ -1,5 +1,5 @@
 use Rattle.std.proofs.Common.{Some, subst, sym, ◌≡◌}
-use Rattle.vd_indicating.specs.Made.{Indicates}
+use Rattle.vd_value_rules.specs.Made.{Indicates}
 use Rattle.vd_value_rules.specs.Knowledge.{at_mark}
 use Rattle.vd_bound_rules.proofs.written.of_type.Goals as goal
 

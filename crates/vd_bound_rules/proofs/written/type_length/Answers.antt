@@ -1,7 +1,7 @@
 use Rattle.std.proofs.Common.{ap, length, subst, sym, ◌≤◌, ◌∙◌}
 use Rattle.vd_bound_rules.specs.Written.{IsTypeLength}
 use Rattle.vd_forest.specs.Store.{at}
-use Rattle.vd_indicating.specs.Indicated.{indicated_in}
+use Rattle.vd_value_rules.specs.Indicated.{indicated_in}
 use Rattle.vd_bound_rules.proofs.written.type_length.Goals as goal
 
 pub cursor-requires : goal.cursor-requires

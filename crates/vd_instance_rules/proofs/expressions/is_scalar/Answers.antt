@@ -1,6 +1,6 @@
 use Rattle.std.proofs.Common.{◌≤◌, ◌∙◌, ap, length, subst, sym}
 use Rattle.vd_forest.specs.Store.{at}
-use Rattle.vd_indicating.specs.Indicated.{indicated_in}
+use Rattle.vd_value_rules.specs.Indicated.{indicated_in}
 use Rattle.vd_instance_rules.proofs.ScalarLemmas.{scalar_is}
 use Rattle.vd_meaning.specs.Names.{scalars_of}
 use Rattle.vd_instance_rules.proofs.expressions.is_scalar.Goals as goal

@@ -1,6 +1,6 @@
 use Rattle.std.proofs.Common.{◌≡◌, ◌≤◌, length, map, reverse, take}
 use Rattle.vd_forest.specs.Store.{Extends, at}
-use Rattle.vd_indicating.specs.Indicated.{texts_in}
+use Rattle.vd_value_rules.specs.Indicated.{texts_in}
 use Rattle.vd_known_designs.proofs.literals.add_texts.Given as goal
 
 abbrev pub invariant-loop-text : goal.invariant-loop-text

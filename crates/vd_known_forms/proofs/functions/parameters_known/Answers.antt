@@ -1,6 +1,6 @@
 use Rattle.std.proofs.Common.{ap}
 use Rattle.vd_forest.proofs.StoreLemmas.{extends_same, extends_trans}
-use Rattle.vd_indicating.specs.Indicated.{static_of}
+use Rattle.vd_value_rules.specs.Indicated.{static_of}
 use Rattle.vd_known_forms.proofs.FormLemmas.{no_parameter_left, one_parameter, ready_again}
 use Rattle.vd_value_rules.specs.Declaring.{parameters_known}
 use Rattle.vd_known_forms.proofs.functions.parameters_known.Goals as goal

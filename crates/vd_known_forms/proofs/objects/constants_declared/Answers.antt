@@ -1,5 +1,5 @@
 use Rattle.std.proofs.Common.{ap, ◌∷◌, ◌∙◌}
-use Rattle.vd_indicating.specs.Indicated.{static_of}
+use Rattle.vd_value_rules.specs.Indicated.{static_of}
 use Rattle.vd_known_forms.proofs.FormLemmas.{at_part, constants_same, early_found, ready_again}
 use Rattle.vd_meaning.specs.Facets.{nth}
 use Rattle.vd_meaning.specs.Meanings.{meanings}

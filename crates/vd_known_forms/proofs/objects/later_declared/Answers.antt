@@ -1,6 +1,6 @@
 use Rattle.std.proofs.Common.{subst, ◌∷◌, ◌∙◌}
 use Rattle.std.specs.Prelude.{OnOk}
-use Rattle.vd_indicating.specs.Indicated.{static_of}
+use Rattle.vd_value_rules.specs.Indicated.{static_of}
 use Rattle.vd_known_designs.specs.Designs.{Knows}
 use Rattle.vd_value_rules.specs.Knowledge.{indicated_twice, later_objects as objects_later, parts_at}
 use Rattle.vd_known_forms.proofs.objects.later_declared.Goals as goal

@@ -1,6 +1,6 @@
 use Rattle.std.proofs.Common.{◌∷◌, ap, ◌∙◌}
 use Rattle.vd_forest.specs.Forest.{parts_of}
-use Rattle.vd_indicating.specs.Indicated.{static_of}
+use Rattle.vd_value_rules.specs.Indicated.{static_of}
 use Rattle.vd_known_generics.proofs.InstanceLemmas.{at_part, parameter_set}
 use Rattle.vd_value_rules.specs.Knowledge.{indicated_twice}
 use Rattle.vd_known_generics.proofs.instances.parameter_known.Goals as goal

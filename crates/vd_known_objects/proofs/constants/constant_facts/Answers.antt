@@ -1,6 +1,6 @@
 use Rattle.std.proofs.Common.{ap, ◌∙◌}
 use Rattle.vd_forest.specs.Store.{at}
-use Rattle.vd_indicating.specs.Indicated.{indicated_in, static_of}
+use Rattle.vd_value_rules.specs.Indicated.{indicated_in, static_of}
 use Rattle.vd_known_objects.proofs.ConstantLemmas.{facts_of_none}
 use Rattle.vd_known_tables.specs.Shapes.{default_shape}
 use Rattle.vd_known_objects.proofs.constants.constant_facts.Goals as goal

@@ -1,7 +1,7 @@
 use Rattle.std.proofs.Common.{◌&&◌, ◌≡◌, ◌∷◌, ap, subst, sym, ◌∙◌}
 use Rattle.vd_environments.specs.Environments.{all_bounds}
 use Rattle.vd_forest.specs.Store.{at}
-use Rattle.vd_indicating.specs.Indicated.{indicated_in}
+use Rattle.vd_value_rules.specs.Indicated.{indicated_in}
 use Rattle.vd_known_objects.proofs.ConstantLemmas.{known_by_parts}
 use Rattle.vd_known_tables.specs.Known.{AreKnown}
 use Rattle.vd_meaning.specs.Declarations.{has_bounds}

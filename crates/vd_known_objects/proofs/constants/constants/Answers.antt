@@ -1,7 +1,7 @@
 use Rattle.std.proofs.Common.{◌+◌, ◌∷◌, subst, sym, take, take_all, ◌∙◌}
 use Rattle.vd_forest.proofs.StoreLemmas.{extends_same, extends_trans}
 use Rattle.vd_forest.specs.Store.{Extends}
-use Rattle.vd_indicating.specs.Indicated.{static_of}
+use Rattle.vd_value_rules.specs.Indicated.{static_of}
 use Rattle.vd_known_designs.proofs.DesignLemmas.{indicated_grown}
 use Rattle.vd_known_designs.specs.Designs.{Knows}
 use Rattle.vd_known_objects.proofs.ConstantLemmas.{local_value, one_constant}

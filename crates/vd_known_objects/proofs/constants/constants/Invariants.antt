@@ -2,7 +2,7 @@ use Rattle.std.proofs.Common.{List, ◌∷◌, take}
 use Rattle.vd_composites.specs.Composites.{Value}
 use Rattle.vd_environments.specs.Got.{Got}
 use Rattle.vd_forest.specs.Store.{Extends}
-use Rattle.vd_indicating.specs.Indicated.{static_of}
+use Rattle.vd_value_rules.specs.Indicated.{static_of}
 use Rattle.vd_known_designs.specs.Designs.{AreIndicated, Knows}
 use Rattle.vd_static_entries.specs.Entries.{IsFound}
 use Rattle.vd_value_rules.specs.Designs.{Design}

@@ -2,7 +2,7 @@ use Rattle.std.proofs.Common.{◌+◌, ◌∷◌, ap, subst, sym, take, take_all
 use Rattle.vd_composites.specs.Subtypes.{default_of}
 use Rattle.vd_forest.proofs.StoreLemmas.{extends_trans}
 use Rattle.vd_forest.specs.Store.{at}
-use Rattle.vd_indicating.specs.Indicated.{indicated_in, static_of}
+use Rattle.vd_value_rules.specs.Indicated.{indicated_in, static_of}
 use Rattle.vd_known_designs.proofs.DesignLemmas.{indicated_grown}
 use Rattle.vd_known_designs.specs.Designs.{Knows}
 use Rattle.vd_known_objects.proofs.ObjectLemmas.{knows_changed, one_later}

@@ -1,6 +1,6 @@
 use Rattle.std.proofs.Common.{List, ◌∷◌, take}
 use Rattle.vd_forest.specs.Store.{Extends}
-use Rattle.vd_indicating.specs.Indicated.{static_of}
+use Rattle.vd_value_rules.specs.Indicated.{static_of}
 use Rattle.vd_known_designs.specs.Designs.{AreIndicated, Knows}
 use Rattle.vd_value_rules.specs.Designs.{Design}
 use Rattle.vd_value_rules.specs.Knowledge.{Known, TwoIndicated, later_objects as objects_later}

@@ -1,6 +1,6 @@
 use Rattle.std.proofs.Common.{◌≡◌, ◌≤◌, drop, length}
 use Rattle.vd_forest.specs.Store.{Extends, at}
-use Rattle.vd_indicating.specs.Indicated.{fields_in, indicated_in}
+use Rattle.vd_value_rules.specs.Indicated.{fields_in, indicated_in}
 use Rattle.vd_known_types.specs.Fields.{in_front}
 use Rattle.vd_meaning.specs.Declarations.{fields_named}
 use Rattle.vd_known_types.proofs.lists.add_fields.Given as goal

@@ -1,6 +1,6 @@
 use Rattle.std.proofs.Common.{◌≡◌, ◌≤◌, drop, length}
 use Rattle.vd_forest.specs.Store.{Extends, at}
-use Rattle.vd_indicating.specs.Indicated.{texts_in}
+use Rattle.vd_value_rules.specs.Indicated.{texts_in}
 use Rattle.vd_known_types.proofs.lists.literals.Given as goal
 
 abbrev pub invariant-loop-left : goal.invariant-loop-left

@@ -1,7 +1,7 @@
 use Rattle.std.proofs.Common.{◌∷◌, ap, false, sym, true, ◌∙◌}
 use Rattle.vd_forest.proofs.StoreLemmas.{extends_trans}
 use Rattle.vd_forest.specs.Store.{at}
-use Rattle.vd_indicating.specs.Indicated.{fields_in}
+use Rattle.vd_value_rules.specs.Indicated.{fields_in}
 use Rattle.vd_known_types.proofs.FieldLemmas.{element_in_front}
 use Rattle.vd_known_types.specs.Fields.{in_front}
 use Rattle.vd_value_rules.specs.Knowledge.{fields_defined}

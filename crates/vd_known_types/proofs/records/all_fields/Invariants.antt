@@ -1,7 +1,7 @@
 use Rattle.std.proofs.Common.{◌≡◌, ◌≤◌, ◌∷◌, List, [], false, length, true}
 use Rattle.vd_forest.specs.Forest.{tree_count}
 use Rattle.vd_forest.specs.Store.{Extends, at}
-use Rattle.vd_indicating.specs.Indicated.{fields_in}
+use Rattle.vd_value_rules.specs.Indicated.{fields_in}
 use Rattle.vd_known_designs.specs.Designs.{IsReady, Knows}
 use Rattle.vd_known_types.specs.Fields.{in_front}
 use Rattle.vd_value_rules.specs.Designs.{Design}

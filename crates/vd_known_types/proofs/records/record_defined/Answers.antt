@@ -1,6 +1,6 @@
 use Rattle.std.proofs.Common.{ap, false, true, ◌∙◌}
 use Rattle.vd_forest.proofs.StoreLemmas.{at_more, within_more}
-use Rattle.vd_indicating.specs.Indicated.{fields_in}
+use Rattle.vd_value_rules.specs.Indicated.{fields_in}
 use Rattle.vd_known_designs.proofs.DesignLemmas.{knows_grown}
 use Rattle.vd_known_designs.specs.declared.design.KnownDesign.{KnownDesign}
 use Rattle.vd_known_tables.proofs.KnownLemmas.{indicates_grown}

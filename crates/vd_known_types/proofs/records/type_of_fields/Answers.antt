@@ -1,7 +1,7 @@
 use Rattle.std.proofs.Common.{IfOk, subst, ◌∙◌}
 use Rattle.vd_forest.specs.Store.{at}
-use Rattle.vd_indicating.specs.Indicated.{fields_in}
-use Rattle.vd_indicating.specs.Made.{Indicates}
+use Rattle.vd_value_rules.specs.Indicated.{fields_in}
+use Rattle.vd_value_rules.specs.Made.{Indicates}
 use Rattle.vd_known_types.proofs.FieldLemmas.{turned_front}
 use Rattle.vd_meaning.specs.Declarations.{record_type}
 use Rattle.vd_known_types.proofs.records.type_of_fields.Goals as goal

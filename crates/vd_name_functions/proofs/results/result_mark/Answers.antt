@@ -1,6 +1,6 @@
 use Rattle.std.proofs.Common.{refl, ap, ◌∙◌}
-use Rattle.vd_name_paths.specs.Nodes.{named_to_fit}
-use Rattle.vd_name_paths.specs.declared.fit.Fit.TheVariants as fit
+use Rattle.vd_naming.specs.Nodes.{named_to_fit}
+use Rattle.vd_naming.specs.declared.fit.Fit.TheVariants as fit
 use Rattle.vd_naming.specs.Paths.{mark, with_named}
 use Rattle.vd_forest.specs.Forest.{nothing, more}
 use Rattle.vd_name_functions.proofs.HeaderLemmas.{mark_made, mark_place}

@@ -1,4 +1,4 @@
-use Rattle.vd_indicating.specs.Indicated.{indicated_in}
+use Rattle.vd_value_rules.specs.Indicated.{indicated_in}
 use Rattle.vd_forest.specs.Store.{at}
 use Rattle.vd_shapings.proofs.OverLemmas.{same_extent}
 use Rattle.vd_value_rules.specs.Knowledge.{at_mark}

@@ -1,5 +1,5 @@
 use Rattle.std.proofs.Common.{Some, subst}
-use Rattle.vd_indicating.specs.Made.{Indicates}
+use Rattle.vd_value_rules.specs.Made.{Indicates}
 use Rattle.vd_shapings.proofs.OverLemmas.{result_predefined, result_written}
 use Rattle.vd_static_entries.specs.Entries.{table_of}
 use Rattle.vd_value_rules.specs.Knowledge.{at_mark}

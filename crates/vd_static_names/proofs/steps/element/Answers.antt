@@ -1,7 +1,7 @@
 use Rattle.std.proofs.Common.{◌≤◌, ◌∙◌, ap, length, refl, subst, sym, true}
 use Rattle.vd_environments.specs.Got.{is_got}
 use Rattle.vd_forest.specs.Store.{at}
-use Rattle.vd_indicating.specs.Indicated.{element_indicated, indicated_in}
+use Rattle.vd_value_rules.specs.Indicated.{element_indicated, indicated_in}
 use Rattle.vd_meaning.specs.Names.{element_of_subtype, stepped, to_element}
 use Rattle.vd_static_entries.specs.Names.{IsName, number_in}
 use Rattle.vd_static_names.proofs.AlikeLemmas.{element_of_name, elements_of_name}

@@ -1,5 +1,5 @@
 use Rattle.std.proofs.Common.{arith}
-use Rattle.vd_indicating.specs.Indicated.{static_of}
+use Rattle.vd_value_rules.specs.Indicated.{static_of}
 use Rattle.vd_static_parts.proofs.KnownLemmas.{known_more}
 use Rattle.vd_static_nodes.specs.Choices.{known_among, known_with}
 use Rattle.vd_static_nodes.proofs.choices.choices_known.Goals as goal

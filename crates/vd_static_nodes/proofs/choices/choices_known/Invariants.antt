@@ -1,6 +1,6 @@
 use Rattle.std.proofs.Common.{◌≡◌, drop}
 use Rattle.vd_environments.specs.Environments.{both}
-use Rattle.vd_indicating.specs.Indicated.{static_of}
+use Rattle.vd_value_rules.specs.Indicated.{static_of}
 use Rattle.vd_static_nodes.specs.Choices.{known_among}
 use Rattle.vd_static_nodes.proofs.choices.choices_known.Given as goal
 

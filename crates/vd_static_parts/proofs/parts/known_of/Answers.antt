@@ -1,5 +1,5 @@
 use Rattle.std.proofs.Common.{arith, refl}
-use Rattle.vd_indicating.specs.Indicated.{static_of}
+use Rattle.vd_value_rules.specs.Indicated.{static_of}
 use Rattle.vd_static_parts.proofs.KnownLemmas.{known_more, known_of_all, known_parts}
 use Rattle.vd_static_parts.proofs.parts.known_of.Goals as goal
 

@@ -1,6 +1,6 @@
 use Rattle.std.proofs.Common.{◌≡◌, drop}
 use Rattle.vd_environments.specs.Environments.{both}
-use Rattle.vd_indicating.specs.Indicated.{static_of}
+use Rattle.vd_value_rules.specs.Indicated.{static_of}
 use Rattle.vd_static_parts.proofs.KnownLemmas.{known_parts}
 use Rattle.vd_static_parts.proofs.parts.known_of.Given as goal
 

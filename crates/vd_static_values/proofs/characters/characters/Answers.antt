@@ -1,6 +1,6 @@
 use Rattle.std.proofs.Common.{refl, subst, sym}
 use Rattle.vd_forest.specs.Forest.{more}
-use Rattle.vd_indicating.specs.Indicated.{texts_in}
+use Rattle.vd_value_rules.specs.Indicated.{texts_in}
 use Rattle.vd_static_values.proofs.CharacterLemmas.{IsSoFar, so_far_all, so_far_more, so_far_none}
 use Rattle.vd_static_values.proofs.characters.characters.Goals as goal
 

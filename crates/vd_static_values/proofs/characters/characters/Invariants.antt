@@ -1,5 +1,5 @@
 use Rattle.vd_forest.specs.Forest.{size}
-use Rattle.vd_indicating.specs.Indicated.{texts_in}
+use Rattle.vd_value_rules.specs.Indicated.{texts_in}
 use Rattle.vd_static_values.proofs.CharacterLemmas.{IsSoFar}
 use Rattle.vd_static_values.proofs.characters.characters.Given as goal
 

@@ -1,6 +1,6 @@
 use Rattle.std.proofs.Common.{Ok, drop, ◌++◌, ◌≡◌}
 use Rattle.vd_composites.specs.Stops.{◌>>=◌}
-use Rattle.vd_indicating.specs.Indicated.{indicated_in}
+use Rattle.vd_value_rules.specs.Indicated.{indicated_in}
 use Rattle.vd_static_values.specs.Levels.{all_whole}
 use Rattle.vd_static_values.proofs.converting.all_fitted.Given as goal
 

@@ -1,5 +1,5 @@
 use Rattle.std.proofs.Common.{Ok, Some, ap, subst, sym, ◌∙◌}
-use Rattle.vd_indicating.specs.Indicated.{indicated_in}
+use Rattle.vd_value_rules.specs.Indicated.{indicated_in}
 use Rattle.vd_meaning.specs.Names.{whole_converted}
 use Rattle.vd_static_entries.specs.Entries.{IsFound}
 use Rattle.vd_static_values.proofs.LevelLemmas.{converted_is}

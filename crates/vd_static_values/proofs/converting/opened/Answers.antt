@@ -1,7 +1,7 @@
 use Rattle.std.proofs.Common.{None, Some, [], ap, subst, sym, true, ◌++◌, ◌∙◌, ◌∷◌, ◌≡◌}
 use Rattle.std.specs.Prelude.{is_some}
-use Rattle.vd_indicating.specs.Indicated.{index_of, indicated_in}
-use Rattle.vd_indicating.specs.Found.{found}
+use Rattle.vd_value_rules.specs.Indicated.{index_of, indicated_in}
+use Rattle.vd_value_rules.specs.Found.{found}
 use Rattle.vd_static_values.proofs.LevelLemmas.{element_is_less, level_of, opened_first, opened_last, opened_more, opened_stops}
 use Rattle.vd_static_values.specs.Finding.{IsListFound}
 use Rattle.vd_static_values.specs.Levels.{AreSized, all_whole, elements_of, inside_converted, lists_in}

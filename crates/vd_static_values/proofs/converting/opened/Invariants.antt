@@ -1,6 +1,6 @@
 use Rattle.std.proofs.Common.{◌≡◌}
-use Rattle.vd_indicating.specs.Indicated.{indicated_in}
-use Rattle.vd_indicating.specs.Found.{found}
+use Rattle.vd_value_rules.specs.Indicated.{indicated_in}
+use Rattle.vd_value_rules.specs.Found.{found}
 use Rattle.vd_static_values.specs.Levels.{inside_converted, lists_in}
 use Rattle.vd_static_values.proofs.LevelLemmas.{alone, depth, level_of}
 use Rattle.vd_static_values.proofs.converting.opened.Given as goal

@@ -1,6 +1,6 @@
 use Rattle.std.proofs.Common.{Some, ap, subst, sym, ◌∙◌}
 use Rattle.vd_environments.specs.Environments.{element_make, literals_of}
-use Rattle.vd_indicating.specs.Indicated.{indicated_in}
+use Rattle.vd_value_rules.specs.Indicated.{indicated_in}
 use Rattle.vd_plain_values.specs.Strings.{array_by, places_in}
 use Rattle.vd_static_values.proofs.StringLemmas.{string_is, string_stops}
 use Rattle.vd_static_values.specs.Characters.{HasCharacters}

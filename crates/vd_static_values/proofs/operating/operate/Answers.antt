@@ -1,5 +1,5 @@
 use Rattle.std.proofs.Common.{subst, sym, ◌∙◌}
-use Rattle.vd_indicating.specs.Indicated.{indicated_in}
+use Rattle.vd_value_rules.specs.Indicated.{indicated_in}
 use Rattle.vd_operations.specs.Readings.{read_operation}
 use Rattle.vd_plain_values.specs.Operands.{AreArguments}
 use Rattle.vd_static_values.proofs.OperationLemmas.{are_standing, operated, standing}

@@ -1,8 +1,8 @@
 use Rattle.std.proofs.Common.{subst, sym, ◌∙◌}
 use Rattle.vd_forest.proofs.StoreLemmas.{extends_same, extends_trans}
 use Rattle.vd_forest.specs.Store.{Extends, at}
-use Rattle.vd_indicating.specs.Indicated.{indicated_in, static_of}
-use Rattle.vd_indicating.specs.Made.{object_of}
+use Rattle.vd_value_rules.specs.Indicated.{indicated_in, static_of}
+use Rattle.vd_value_rules.specs.Made.{object_of}
 use Rattle.vd_known_tables.proofs.DeclaredLemmas.{declared_same, same_entry, same_indicated}
 use Rattle.vd_known_tables.proofs.KnownLemmas.{has_known_grown, indicates_grown}
 use Rattle.vd_known_tables.specs.Denoted.{object_denoted, subtype_denoted}

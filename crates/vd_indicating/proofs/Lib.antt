@@ -1,6 +1,0 @@
-pub mod PartLemmas
-pub mod ConstraintLemmas
-pub mod FoundLemmas
-pub mod InsideLemmas
-pub mod FieldLemmas
-pub mod BoundLemmas
