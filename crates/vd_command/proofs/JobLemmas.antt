@@ -1,12 +1,10 @@
 -- What the parts that all modes share say of a mode, in the words that ask for it.
-use Rattle.std.proofs.Common.{◌≡◌, ◌≢◌, ◌<◌, ◌≤◌, ◌⊎◌, ℕ, suc, zero, Bool, List, [], ◌∷◌, length, get_or, refl, sym, ap, ◌∙◌, subst, arith, inl, inr, Option, Some, None, IfSome}
+use Rattle.std.proofs.Common.{◌≡◌, ◌≢◌, ◌<◌, ◌≤◌, ◌⊎◌, ℕ, Bool, List, [], ◌∷◌, length, get_or, refl, sym, ap, ◌∙◌, subst, arith, inl, inr, Option, Some, None, IfSome}
 use Rattle.std.proofs.lemmas.Bool.{cases_lt}
 use Rattle.std.specs.Prelude.{slice_index_or}
 use Rattle.vd_bytes.specs.declared.channels.Channel.{Channel}
 use Rattle.vd_bytes.specs.Trays.{Rose}
 use Rattle.vd_checking.proofs.CheckLemmas.{IsStatus, check_status}
-use Rattle.vd_first_lex.specs.declared.selected.Selected.{Selected}
-use Rattle.vd_first_lex.specs.Lexings.{ColumnsFit}
 use Rattle.vd_first_lower.specs.Conversions.{Answer, refused, beyond, converted, IsConversion}
 use Rattle.vd_first_lex.specs.Lexings.{plain_of}
 use Rattle.vd_program.specs.Dues.{Due, refused_words, read_fault}
@@ -18,10 +16,6 @@ use Rattle.vd_command.specs.Endings.{IsCompleted, IsOutcomeOf, Writes}
 use Rattle.vd_command.specs.Headline.{HasNoFault}
 
 -- a list of one
-pub fits_alone : (s : Selected) → ColumnsFit s → (k : ℕ) (d : Selected) → k < 1 → ColumnsFit (get_or (s ∷ []) k d)
-fits_alone s fits zero d within = fits
-fits_alone s fits (suc k) d within = absurd (omega (arith, within))
-
 alone : (xs : List (List ℕ)) → length xs ≡ 1 → xs ≡ get_or xs 0 [] ∷ []
 alone [] e = absurd (omega (arith, e))
 alone (x ∷ []) e = refl

@@ -1,3 +1,4 @@
+pub mod Alone
 pub mod ConversionLemmas
 pub mod Faithful
 pub mod LaidOut

@@ -1,9 +1,10 @@
 //! Words that aren't taken, and broken rules.
 
-use crate::calls::{NO_FAULT, called, converted, line};
-use crate::conversions::{DUE, SOURCE};
+use crate::calls::{NO_FAULT, converted, converting, line};
+use crate::conversions::DUE;
 use std::alloc::{AllocError, Global};
 use std::test::Fail;
+use vd_first_tests::texts::SOURCE;
 
 const ABOVE: &[u8] = b"library ieee;
 use ieee.std_logic_1164.all;
@@ -77,7 +78,7 @@ fn words_that_are_not_taken(rt: HostRuntime) -> Result<(), Fail> {
         &["--Do", "convert", "e.vhd"],
         &["convert", "e.vhd"],
     ] {
-        called(
+        converting(
             &rt,
             rt.alloc(),
             words,
@@ -92,7 +93,7 @@ fn words_that_are_not_taken(rt: HostRuntime) -> Result<(), Fail> {
 #[test]
 fn a_check_of_the_same_file(rt: HostRuntime) -> Result<(), Fail> {
     // The text breaks no rule. Neither a design nor a map is written.
-    called(
+    converting(
         &rt,
         rt.alloc(),
         &["--do", "check", "e.vhd"],
@@ -118,7 +119,7 @@ fn words_in_their_other_form(rt: HostRuntime) -> Result<(), Fail> {
             "e.vhd",
         ],
     ] {
-        called(&rt, rt.alloc(), words, SOURCE, &NO_FAULT, &DUE)?;
+        converting(&rt, rt.alloc(), words, SOURCE, &NO_FAULT, &DUE)?;
     }
     Ok(())
 }

@@ -1,12 +1,16 @@
-//! A call of the program over a tray in memory, and what it must leave.
-
-ghost use Rattle.std.specs.Prelude.{◌≡◌, IfOk, vec_len};
+//! A call of the program over files in memory, and what it must leave.
 
 use std::alloc::{AllocError, Global};
 use std::process::Abort;
 use std::test::Fail;
 use vd_bytes::{Channel, MemoryTray};
 use vd_command::vdown;
+
+/// A file's name and text.
+pub type File<'a> = (&'a str, &'a [u8]);
+
+/// Files that are checked in their order, and the status and the text of the console that are due for them.
+pub type Case<'a> = (&'a [File<'a>], u8, &'a [u8]);
 
 /// The calls of each kind that fail, by their numbers from 1, and how many bytes a call moves at most.
 #[derive(Clone, Copy)]
@@ -43,34 +47,24 @@ pub const fn line(status: u8, console: &[u8]) -> Due<'_> {
     }
 }
 
-fn names(alloc: Global) -> Result<Vec<String>, AllocError>
-    ensures { IfOk result (λ names. vec_len names ≡ 1) }
-{
+fn tray_with(
+    rt: &impl Abort,
+    alloc: Global,
+    files: &[File<'_>],
+    faults: &Faults<'_>,
+) -> Result<MemoryTray, Fail> {
     let mut names = Vec::new(alloc);
-    names.push(String::from_str(alloc, "e.vhd")?)?;
-    Ok(names)
-}
-
-fn contents(alloc: Global, source: &[u8]) -> Result<Vec<Vec<u8>>, AllocError>
-    ensures { IfOk result (λ contents. vec_len contents ≡ 1) }
-{
     let mut contents = Vec::new(alloc);
-    contents.push(Vec::from_slice(alloc, source)?)?;
-    Ok(contents)
-}
-
-fn tray_with(alloc: Global, source: &[u8], faults: &Faults<'_>) -> Result<MemoryTray, AllocError> {
+    for (name, text) in files {
+        names.push(String::from_str(alloc, name)?)?;
+        contents.push(Vec::from_slice(alloc, text)?)?;
+    }
+    // The loop doesn't say that each name has a text.
+    assert!(rt; names.len() == contents.len());
     let opens = Vec::from_slice(alloc, faults.opens)?;
     let reads = Vec::from_slice(alloc, faults.reads)?;
     let writes = Vec::from_slice(alloc, faults.writes)?;
-    let mut tray = MemoryTray::new(
-        alloc,
-        names(alloc)?,
-        contents(alloc, source)?,
-        opens,
-        reads,
-        writes,
-    )?;
+    let mut tray = MemoryTray::new(alloc, names, contents, opens, reads, writes)?;
     tray.short(faults.most);
     Ok(tray)
 }
@@ -83,8 +77,78 @@ fn words_of(alloc: Global, texts: &[&str]) -> Result<Vec<String>, AllocError> {
     Ok(words)
 }
 
-/// Calls the program with some words, where `e.vhd` has this text.
+/// Calls the program with these words where there are these files, and compares what it leaves. Whether files may be begun is asked: a call
+/// that writes none neither creates nor empties one, however it ends.
+fn left(
+    rt: &impl Abort,
+    alloc: Global,
+    words: &Vec<String>,
+    files: &[File<'_>],
+    faults: &Faults<'_>,
+    due: &Due<'_>,
+    begins: bool,
+) -> Result<(), Fail> {
+    let mut tray = tray_with(rt, alloc, files, faults)?;
+    let status = vdown(alloc, words, &mut tray);
+    assert_eq!(rt; tray.out(Channel::Console), due.console);
+    assert_eq!(rt; status, due.status);
+    assert_eq!(rt; tray.out(Channel::Design), due.design);
+    assert_eq!(rt; tray.out(Channel::Map), due.map);
+    if !begins {
+        assert!(rt; !tray.is_begun(Channel::Design));
+        assert!(rt; !tray.is_begun(Channel::Map));
+    }
+    Ok(())
+}
+
+/// Calls the program with some words, which ask for no conversion.
 pub fn called(
+    rt: &impl Abort,
+    alloc: Global,
+    words: &[&str],
+    files: &[File<'_>],
+    faults: &Faults<'_>,
+    due: &Due<'_>,
+) -> Result<(), Fail> {
+    let words = words_of(alloc, words)?;
+    left(rt, alloc, &words, files, faults, due, false)
+}
+
+/// Checks files in their order, under these faults.
+pub fn disturbed(
+    rt: &impl Abort,
+    alloc: Global,
+    files: &[File<'_>],
+    faults: &Faults<'_>,
+    due: &Due<'_>,
+) -> Result<(), Fail> {
+    let mut words = words_of(alloc, &["--do", "check"])?;
+    for (name, _) in files {
+        words.push(String::from_str(alloc, name)?)?;
+    }
+    left(rt, alloc, &words, files, faults, due, false)
+}
+
+/// Checks files in their order, which nothing disturbs.
+pub fn checked(
+    rt: &impl Abort,
+    alloc: Global,
+    files: &[File<'_>],
+    due: &Due<'_>,
+) -> Result<(), Fail> {
+    disturbed(rt, alloc, files, &NO_FAULT, due)
+}
+
+/// Checks the files of each case.
+pub fn all_checked(rt: &impl Abort, alloc: Global, cases: &[Case<'_>]) -> Result<(), Fail> {
+    for (files, status, console) in cases {
+        checked(rt, alloc, files, &line(*status, console))?;
+    }
+    Ok(())
+}
+
+/// Calls the program with some words where `e.vhd` has this text. A refusal neither creates nor empties a file.
+pub fn converting(
     rt: &impl Abort,
     alloc: Global,
     words: &[&str],
@@ -93,23 +157,13 @@ pub fn called(
     due: &Due<'_>,
 ) -> Result<(), Fail> {
     let words = words_of(alloc, words)?;
-    let mut tray = tray_with(alloc, source, faults)?;
-    let status = vdown(alloc, &words, &mut tray);
-    assert_eq!(rt; tray.out(Channel::Console), due.console);
-    assert_eq!(rt; status, due.status);
-    assert_eq!(rt; tray.out(Channel::Design), due.design);
-    assert_eq!(rt; tray.out(Channel::Map), due.map);
-    // A refusal neither creates nor empties a file.
-    if status != 0 && status != 4 {
-        assert!(rt; !tray.is_begun(Channel::Design));
-        assert!(rt; !tray.is_begun(Channel::Map));
-    }
-    Ok(())
+    let begins = due.status == 0 || due.status == 4;
+    left(rt, alloc, &words, &[("e.vhd", source)], faults, due, begins)
 }
 
 /// Converts a text, which nothing disturbs.
 pub fn converted(rt: &impl Abort, alloc: Global, source: &[u8], due: &Due<'_>) -> Result<(), Fail> {
-    called(
+    converting(
         rt,
         alloc,
         &["--do", "convert", "e.vhd"],

@@ -2,36 +2,11 @@
 
 use crate::calls::{Due, converted};
 use std::test::Fail;
-
-pub const SOURCE: &[u8] = b"library ieee;
-use ieee.std_logic_1164.all;
-entity e is
-  port (a, b : in std_ulogic; y : out std_ulogic);
-end entity;
-architecture rtl of e is
-begin
-  process (all)
-  begin
-    y <= a and b;
-  end process;
-end architecture;
-";
+use vd_first_tests::texts::{DESIGN, SOURCE};
 
 pub const DUE: Due<'static> = Due {
     status: 0,
-    design: b"library ieee;
-use ieee.std_logic_1164.all;
-entity e is
-  port (a : in std_ulogic; b : in std_ulogic; y : out std_ulogic);
-end entity e;
-architecture rtl of e is
-begin
-  process (a, b) is
-  begin
-    y <= a and b;
-  end process;
-end architecture rtl;
-",
+    design: DESIGN,
     map: b"{\"format\":1,\"rows\":[[\"port\",\"e\",\"a\",\"a\",\"std_ulogic\",\"in\"],[\"port\",\"e\",\"b\",\"b\",\"std_ulogic\",\"in\"],[\"port\",\"e\",\"y\",\"y\",\"std_ulogic\",\"out\"]]}\n",
     console: b"converted 2 units 3 rows\n",
 };

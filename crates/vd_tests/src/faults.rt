@@ -1,10 +1,11 @@
-//! Faults in reading and writing, one by one, and short reads and writes.
+//! Conversions: faults in reading and writing, one by one, and short reads and writes.
 
-use crate::calls::{Due, Faults, NO_FAULT, called, line};
-use crate::conversions::{DUE, SOURCE};
+use crate::calls::{Due, Faults, NO_FAULT, converting, line};
+use crate::conversions::DUE;
 use std::alloc::Global;
 use std::process::Abort;
 use std::test::Fail;
+use vd_first_tests::texts::SOURCE;
 
 const WORDS: [&str; 3] = ["--do", "convert", "e.vhd"];
 
@@ -15,7 +16,7 @@ fn disturbed(
     faults: &Faults<'_>,
     due: &Due<'_>,
 ) -> Result<(), Fail> {
-    called(rt, alloc, &WORDS, SOURCE, faults, due)
+    converting(rt, alloc, &WORDS, SOURCE, faults, due)
 }
 
 /// Reads with a fault at the call of this number.
@@ -50,7 +51,7 @@ fn a_file_that_cannot_be_read(rt: HostRuntime) -> Result<(), Fail> {
 fn a_file_that_is_missing(rt: HostRuntime) -> Result<(), Fail> {
     let due = line(3, b"read fault f.vhd\n");
     let words = ["--do", "convert", "f.vhd"];
-    called(&rt, rt.alloc(), &words, SOURCE, &NO_FAULT, &due)
+    converting(&rt, rt.alloc(), &words, SOURCE, &NO_FAULT, &due)
 }
 
 #[test]
@@ -72,7 +73,7 @@ fn the_write_that_fails(rt: HostRuntime) -> Result<(), Fail> {
 #[test]
 fn the_line_that_cannot_be_written(rt: HostRuntime) -> Result<(), Fail> {
     let due = line(4, b"");
-    called(&rt, rt.alloc(), &[], SOURCE, &write_at(&[1]), &due)
+    converting(&rt, rt.alloc(), &[], SOURCE, &write_at(&[1]), &due)
 }
 
 #[test]

@@ -1,4 +1,4 @@
-//! What crosses crates: the worked example from the definitions alone, and tests of the whole call over trays in memory.
+//! Tests of the whole call over files in memory.
 #![tactic(auto)]
 
 #[cfg(test)]
@@ -6,15 +6,26 @@ mod answers;
 #[cfg(test)]
 mod calls;
 #[cfg(test)]
+mod check_faults;
+#[cfg(test)]
+mod check_limits;
+#[cfg(test)]
 mod conversions;
-pub mod example;
+#[cfg(test)]
+mod examples;
 #[cfg(test)]
 mod faults;
 #[cfg(test)]
 mod limits;
 #[cfg(test)]
-mod run_limits;
+mod nesting;
 #[cfg(test)]
-mod runs;
+mod order;
+#[cfg(test)]
+mod outside;
 #[cfg(test)]
 mod sure;
+#[cfg(test)]
+mod warnings;
+#[cfg(test)]
+mod words;

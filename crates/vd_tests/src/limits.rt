@@ -1,19 +1,9 @@
-//! The limits, and one less.
+//! Conversions: the limits, and one less.
 
 use crate::calls::{converted, line};
 use std::alloc::{AllocError, Global};
 use std::test::Fail;
-
-pub const HEAD: &[u8] = b"library ieee;
-use ieee.std_logic_1164.all;
-entity e is
-  port (a : in std_ulogic; y : out std_ulogic);
-end entity;
-architecture rtl of e is
-begin
-";
-
-pub const FOOT: &[u8] = b"end architecture;\n";
+use vd_first_tests::texts::{FOOT, HEAD};
 
 #[test]
 fn the_longest_input(rt: HostRuntime) -> Result<(), Fail> {

@@ -1,15 +1,11 @@
 //! The program: its words and real files in, a status out.
 #![tactic(auto)]
 
-mod file_tray;
-#[cfg(test)]
-mod tests;
-
-use crate::file_tray::FileTray;
 use std::env;
 use std::io::ErrorKind;
 use std::process::ExitCode;
 use vd_command::vdown;
+use vd_file_tray::FileTray;
 
 /// Want of memory.
 const MEMORY: u8 = 5;

@@ -3,7 +3,7 @@ use Rattle.std.proofs.lemmas.Result.{IfOk-weaker}
 use Rattle.vd_first_lex.specs.Lexings.{ColumnsFit}
 use Rattle.vd_first_lex.proofs.LineLemmas.{columns_fit}
 use Rattle.vd_first_lower.specs.Conversions.{refused, beyond, converted, IsConversion, EndsAs}
-use Rattle.vd_command.proofs.JobLemmas.{fits_alone}
+use Rattle.vd_first_lower.proofs.Alone.{fits_alone}
 use Rattle.vd_command.proofs.conversion.file_due.Goals as goal
 
 pub convert-requires-clause-columns : goal.convert-requires-clause-columns
