@@ -9,6 +9,7 @@ use Rattle.vd_least.specs.Least.{lesser}
 use Rattle.vd_resolved.specs.Trees.{ResolvedTree}
 use Rattle.vd_rules.specs.Phases.{IsAccepted, first_broken, resolved_design}
 use Rattle.vd_call_rules.specs.Calls.{first_refused as first_of_calls}
+use Rattle.vd_chain_rules.specs.Chains.{first_refused as first_of_chains}
 use Rattle.vd_structure_rules.specs.StructureRules.{first_refused as first_of_structure}
 use Rattle.vd_trees.specs.declared.revision.Revision.{Revision}
 
@@ -26,4 +27,4 @@ IsAnswer r units (Err Memory) = Unit {0}
 
 -- the first refusal of the rules on types, values and structure, where those that need types and values refuse this first
 abbrev pub first_of_rules : Revision → ResolvedTree → Option AnyRefused → Option AnyRefused
-first_of_rules r tree o = lesser (first_of_structure r tree.units) (lesser (first_of_calls tree.units) o)
+first_of_rules r tree o = lesser (first_of_structure r tree.units) (lesser (first_of_calls tree.units) (lesser (first_of_chains r tree) o))

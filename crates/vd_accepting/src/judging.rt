@@ -9,6 +9,7 @@ use crate::all_groups::first_of_groups;
 use std::alloc::{AllocError, Global};
 use vd_bytes::Refused;
 use vd_call_rules::first_call_refusal;
+use vd_chain_rules::first_chain_refusal;
 use vd_forest::Cursor;
 use vd_forms::Form;
 use vd_least::lesser;
@@ -37,7 +38,11 @@ fn first_of_rules(
     let units = tree.cursor();
     let of_structure = first_structure_refusal(alloc, revision, &units)?;
     let of_calls = first_call_refusal(alloc, &units)?;
-    Ok(lesser(of_structure, lesser(of_calls, of_groups)))
+    let of_chains = first_chain_refusal(alloc, revision, tree)?;
+    Ok(lesser(
+        of_structure,
+        lesser(of_calls, lesser(of_chains, of_groups)),
+    ))
 }
 
 /// What is refused of names, or else of rules.

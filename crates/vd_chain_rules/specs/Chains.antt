@@ -1,10 +1,11 @@
 -- Chains of calls in a text, function by function. (IEEE 1076, function calls; subprogram bodies; subprogram and package instantiation declarations)
 -- Calls stand behind the end of the body that they call, so what a call reaches is known where it stands. What is declared by an instance reaches what
 -- its original does, with the actuals in the place of the generic functions.
-use Rattle.std.specs.Prelude.{ℕ, ◌==◌, Bool, List, [], ◌∷◌, ◌++◌, Option, Some, None, if◌then◌else◌, slice_get}
+use Rattle.std.specs.Prelude.{ℕ, ◌==◌, List, [], ◌∷◌, ◌++◌, Option, Some, None, if◌then◌else◌, slice_get, slice_index_or}
 use Rattle.vd_bytes.specs.declared.places.Place.{Place}
 use Rattle.vd_bytes.specs.declared.answers.Refused.{Refused}
 use Rattle.vd_call_rules.specs.Calls.{name_in, place_of_call}
+use Rattle.vd_declarations.specs.Classes.{meaning}
 use Rattle.vd_declarations.specs.declared.classes.Class.{Class}
 use Rattle.vd_declarations.specs.declared.classes.Class.TheVariants as class
 use Rattle.vd_declarations.specs.declared.declarations.Declaration.{Declaration}
@@ -18,7 +19,10 @@ use Rattle.vd_resolved.specs.Trees.{ResolvedTree}
 use Rattle.vd_resolved.specs.declared.node.Resolved.{Resolved}
 use Rattle.vd_structure_rules.specs.Functions.{or_designator}
 use Rattle.vd_structure_rules.specs.Loops.{number_at}
+use Rattle.vd_trees.specs.declared.revision.Revision.{Revision}
+use Rattle.vd_trees.specs.declared.revision.Revision.TheVariants.{V1993, V2019}
 use Rattle.vd_chain_rules.specs.declared.around.Around.{Around}
+use Rattle.vd_chain_rules.specs.declared.copies.Copied.{Copied}
 use Rattle.vd_chain_rules.specs.declared.events.Event.{Event}
 use Rattle.vd_chain_rules.specs.declared.events.Event.TheVariants.{Called, Ended, Instance}
 use Rattle.vd_chain_rules.specs.declared.reaches.Reach.{Reach}
@@ -71,6 +75,10 @@ events units = all_found event_finder outside units
 
 -- ---- what an instance declares: copies of what its original does
 
+abbrev pub paired : List ℕ → List ℕ → List Copied
+paired (n ∷ ns) (m ∷ ms) = record { original = n; copy = m } ∷ paired ns ms
+paired _ _ = []
+
 abbrev pub generics_in : Option Declaration → List ℕ
 generics_in None = []
 generics_in (Some d) = d.generics
@@ -79,17 +87,11 @@ abbrev pub parameters_in : Option Declaration → List ℕ
 parameters_in None = []
 parameters_in (Some d) = d.parameters
 
--- a declaration and its copy
-pub record Copied : Type 0 where
-  pub original : ℕ
-  pub copy : ℕ
-
-abbrev pub paired : List ℕ → List ℕ → List Copied
-paired (n ∷ ns) (m ∷ ms) = record { original = n; copy = m } ∷ paired ns ms
-paired _ _ = []
-
 abbrev pub copied_generics : List Declaration → ℕ → ℕ → List Copied
 copied_generics ds original copy = paired (generics_in (slice_get ds original)) (generics_in (slice_get ds copy))
+
+abbrev pub copied_parameters : List Declaration → ℕ → ℕ → List Copied
+copied_parameters ds original copy = paired (parameters_in (slice_get ds original)) (parameters_in (slice_get ds copy))
 
 -- those of what is instantiated, and of the functions with generics that a package declares
 abbrev pub generics_of_all : List Declaration → List Copied → List Copied
@@ -99,7 +101,7 @@ generics_of_all ds (c ∷ cs) = copied_generics ds c.original c.copy ++ generics
 -- what is instantiated, and what a package declares
 abbrev pub copies : List Declaration → ℕ → ℕ → List Copied
 copies ds original instance =
-    record { original = original; copy = instance } ∷ paired (parameters_in (slice_get ds original)) (parameters_in (slice_get ds instance))
+    record { original = original; copy = instance } ∷ copied_parameters ds original instance
 
 -- ---- what calls reach, by the functions that they call
 
@@ -119,13 +121,17 @@ abbrev pub first_reach : List Declaration → ℕ → Reach
 first_reach ds k = first_reach_of (class_in (slice_get ds k)) k
 
 -- a copy of a generic function is a name of the actual, or else a generic function itself
-abbrev pub reach_of_copy : Option Class → ℕ → (ℕ → Reach) → Reach
-reach_of_copy (Some (class.ActualFunction actual)) k reach = reach actual
-reach_of_copy _ k reach = reach k
+abbrev pub actual_in : Option Class → Option ℕ
+actual_in None = None
+actual_in (Some c) = meaning c
+
+abbrev pub reach_of_copy : Option ℕ → ℕ → (ℕ → Reach) → Reach
+reach_of_copy None k reach = reach k
+reach_of_copy (Some actual) k reach = reach actual
 
 abbrev pub with_generics : List Declaration → List Copied → (ℕ → Reach) → ℕ → Reach
 with_generics ds [] reach = reach
-with_generics ds (c ∷ cs) reach = with_generics ds cs (put_reach c.copy (reach_of_copy (class_in (slice_get ds c.copy)) c.copy reach) reach)
+with_generics ds (c ∷ cs) reach = with_generics ds cs (put_reach c.copy (reach_of_copy (actual_in (class_in (slice_get ds c.copy))) c.copy reach) reach)
 
 abbrev pub stands_for : List Copied → (ℕ → Reach) → ℕ → Reach
 stands_for [] reach q = generic_call q
@@ -147,6 +153,14 @@ after ds (Called around function place) reach = after_call around function reach
 after ds (Ended function) reach = put_reach function (with_body (reach function)) reach
 after ds (Instance original instance) reach = after_instance ds (copies ds original instance) reach
 
+-- rows by the numbers of functions; where there is none, nothing has been called or has ended
+abbrev pub row_or_first : List Declaration → Option Reach → ℕ → Reach
+row_or_first ds None k = first_reach ds k
+row_or_first ds (Some r) k = r
+
+abbrev pub reach_in : List Declaration → List (Option Reach) → ℕ → Reach
+reach_in ds rows k = row_or_first ds (slice_index_or rows k None) k
+
 -- ---- 411, in revision 2019: a chain of calls that is too long
 
 abbrev pub refused_call : Reach → Place → Option Refused
@@ -162,5 +176,6 @@ long_calls ds reach [] = []
 long_calls ds reach (e ∷ es) = refused_at e reach ∷ long_calls ds (after ds e reach) es
 
 -- the least refusal of a resolved design
-abbrev pub first_refused : ResolvedTree → Option Refused
-first_refused tree = least_of (refusals (long_calls tree.declarations (first_reach tree.declarations) (events tree.units)))
+abbrev pub first_refused : Revision → ResolvedTree → Option Refused
+first_refused V1993 tree = None
+first_refused V2019 tree = least_of (refusals (long_calls tree.declarations (first_reach tree.declarations) (events tree.units)))

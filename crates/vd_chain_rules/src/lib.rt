@@ -1,8 +1,11 @@
-//! Chains of calls, of which revision 2019 takes none that is longer than 64: how long they are, as definitions, and what happens in a text.
+//! Chains of calls: that none is longer than 64, in revision 2019.
 #![tactic(auto)]
 
 pub mod around;
+mod chains;
+pub mod copies;
 pub mod events;
 pub mod reaches;
+pub mod tables;
 
-pub use events::events_of;
+pub use chains::first_chain_refusal;

@@ -1,7 +1,8 @@
 //! How long the chains are that begin with a call.
 
-ghost use Rattle.std.specs.Prelude.{◌≡◌, IfOk};
-ghost use Rattle.vd_chain_rules.specs.Reaches.{length_of as length_taken, longer as longer_of, raised as raised_by, further as further_by, no_call as reaches_nothing, generic_call as reaches_generic, with_body as reaches_with_body, is_no_call as is_nothing};
+ghost use Rattle.std.specs.Prelude.{◌≡◌, IfOk, map};
+ghost use Rattle.std.specs.List.{list_any};
+ghost use Rattle.vd_chain_rules.specs.Reaches.{length_of as length_taken, longer as longer_of, raised as raised_by, further as further_by, no_call as reaches_nothing, generic_call as reaches_generic, with_body as reaches_with_body, is_no_call as is_nothing, is_end_of, with_end as ends_with, with_ends as ends_with_all, behind as reaches_behind, together as reaches_together, calling as reaches_calling, is_long_end as is_end_too_long, is_too_long as is_reach_too_long};
 
 use std::alloc::{AllocError, Global};
 use std::marker::Model;
@@ -149,4 +150,113 @@ pub fn is_no_call(reach: &Reach) -> bool
     ensures { result ≡ is_nothing reach.now }
 {
     reach.plain == 0 && reach.ends.as_slice().is_empty()
+}
+
+/// Whether some ends are of a generic function.
+fn has_end_of(ends: &[End], generic: DeclId) -> bool
+    ensures { result ≡ list_any (is_end_of generic) ends.now }
+{
+    for end in ends {
+        if end.generic == generic {
+            return true;
+        }
+    }
+    false
+}
+
+fn all_raised(alloc: Global, ends: &[End], end: &End) -> Result<Vec<End>, AllocError>
+    ensures { IfOk result (λ list. list.items ≡ map (raised_by end.now) ends.now) }
+{
+    let mut list = Vec::new(alloc);
+    for other in ends {
+        let one = raised(*end, *other);
+        list.push(one)?;
+    }
+    Ok(list)
+}
+
+fn all_further(alloc: Global, n: u32, ends: &[End]) -> Result<Vec<End>, AllocError>
+    ensures { IfOk result (λ list. list.items ≡ map (further_by n) ends.now) }
+{
+    let mut list = Vec::new(alloc);
+    for end in ends {
+        list.push(further(n, *end))?;
+    }
+    Ok(list)
+}
+
+/// Ends, and one more.
+fn with_end(alloc: Global, ends: &[End], end: End) -> Result<Vec<End>, AllocError>
+    ensures { IfOk result (λ list. list.items ≡ ends_with ends.now end) }
+{
+    if has_end_of(ends, end.generic) {
+        return all_raised(alloc, ends, &end);
+    }
+    let mut list = Vec::from_slice(alloc, ends)?;
+    list.push(end)?;
+    Ok(list)
+}
+
+/// Ends, and some more.
+fn with_ends(alloc: Global, ends: &[End], more: &[End]) -> Result<Vec<End>, AllocError>
+    ensures { IfOk result (λ list. list.items ≡ ends_with_all ends.now more.now) }
+{
+    let mut list = Vec::from_slice(alloc, ends)?;
+    for end in more {
+        list = with_end(alloc, list.as_slice(), *end)?;
+    }
+    Ok(list)
+}
+
+/// A call behind so many others.
+pub fn behind(alloc: Global, n: u32, reach: &Reach) -> Result<Reach, AllocError>
+    ensures { IfOk result (λ found. found ≡ reaches_behind n reach.now) }
+{
+    let list = all_further(alloc, n, reach.ends.as_slice())?;
+    let plain = length_of(n.saturating_add(reach.plain));
+    Ok(Reach {
+        plain,
+        ends: Ends::of(list),
+    })
+}
+
+/// The longer chains of both.
+pub fn together(alloc: Global, reach: &Reach, other: &Reach) -> Result<Reach, AllocError>
+    ensures { IfOk result (λ found. found ≡ reaches_together reach.now other.now) }
+{
+    let list = with_ends(alloc, reach.ends.as_slice(), other.ends.as_slice())?;
+    let plain = longer(reach.plain, other.plain);
+    Ok(Reach {
+        plain,
+        ends: Ends::of(list),
+    })
+}
+
+/// A function in whose body a call reaches so much.
+pub fn calling(alloc: Global, reach: &Reach, called: &Reach) -> Result<Reach, AllocError>
+    ensures { IfOk result (λ found. found ≡ reaches_calling reach.now called.now) }
+{
+    if is_no_call(called) {
+        return again(alloc, reach);
+    }
+    let further = behind(alloc, 1, called)?;
+    together(alloc, reach, &further)
+}
+
+fn has_long_end(ends: &[End]) -> bool
+    ensures { result ≡ list_any is_end_too_long ends.now }
+{
+    for end in ends {
+        if end.calls > LONGEST {
+            return true;
+        }
+    }
+    false
+}
+
+/// Whether a call that reaches so much begins too long a chain.
+pub fn is_too_long(reach: &Reach) -> bool
+    ensures { result ≡ is_reach_too_long reach.now }
+{
+    reach.plain > LONGEST || has_long_end(reach.ends.as_slice())
 }

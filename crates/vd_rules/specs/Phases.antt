@@ -14,6 +14,7 @@ use Rattle.vd_naming.specs.Settled.{resolved_tree}
 use Rattle.vd_resolved.specs.Trees.{ResolvedTree}
 use Rattle.vd_trees.specs.declared.revision.Revision.{Revision}
 use Rattle.vd_call_rules.specs.Calls.{first_refused as first_of_calls}
+use Rattle.vd_chain_rules.specs.Chains.{first_refused as first_of_chains}
 use Rattle.vd_structure_rules.specs.StructureRules.{first_refused as first_of_structure}
 use Rattle.vd_text_rules.specs.TextRules.{first_refused as first_of_text}
 use Rattle.vd_value_rules.specs.Rules.{broken_in}
@@ -38,7 +39,8 @@ refused_names r units o = lesser (first_of_text r units) (lesser o.first (least_
 
 abbrev pub refused_rules : Revision → ResolvedTree → Option Refused
 refused_rules r tree =
-    lesser (first_of_structure r tree.units) (lesser (first_of_calls tree.units) (least_of (filter is_of_rules (broken_in r tree))))
+    lesser (first_of_structure r tree.units)
+    (lesser (first_of_calls tree.units) (lesser (first_of_chains r tree) (least_of (filter is_of_rules (broken_in r tree)))))
 
 -- ---- both
 
