@@ -39,10 +39,7 @@ fn first_of_rules(
     let of_structure = first_structure_refusal(alloc, revision, &units)?;
     let of_calls = first_call_refusal(alloc, &units)?;
     let of_chains = first_chain_refusal(alloc, revision, tree)?;
-    Ok(lesser(
-        of_structure,
-        lesser(of_calls, lesser(of_chains, of_groups)),
-    ))
+    Ok(lesser(of_structure, lesser(of_calls, lesser(of_chains, of_groups))))
 }
 
 /// What is refused of names, or else of rules.
