@@ -9,7 +9,12 @@ static FILES: [File<'static>; 2] = [
     ("b.vhd", b"entity f is end;\n"),
 ];
 
-const ACCEPTED: Due<'static> = line(0, b"accepted 2 units\n");
+const ACCEPTED: Due<'static> = Due {
+    status: 0,
+    design: b"",
+    map: b"",
+    console: b"accepted 2 units\n",
+};
 
 #[test]
 fn the_second_file_cannot_be_read(rt: HostRuntime) -> Result<(), Fail> {
