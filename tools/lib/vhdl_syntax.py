@@ -1,7 +1,5 @@
 """Writes syntax trees with their places as antt definitions."""
 
-import re
-
 import vhdl_all_places
 
 WIDTH = 150
@@ -96,60 +94,3 @@ def several(path, text, revision):
 def single(path, text, revision):
     """A module with a text that is one design."""
     return "\n".join(front("The syntax tree of a design", path, text, revision) + design("units", 0, text, revision)) + "\n"
-
-
-# ---- texts whose comments say what is answered
-
-ANSWER = re.compile(r"^-- (\w+): (?:refused (\d+) at (\d+):(\d+)|(accepted))$")
-UNFOLDED = "standard_types standard_operators logic_types logic_operators visible_in selected_in_order is_utf8 chars encode_utf8 digits"
-
-
-def answered(text):
-    """The names of the designs, each with what is answered, as a term."""
-    found = []
-    for line in text.split("\n"):
-        match = ANSWER.match(line)
-        if match:
-            name, rule, down, right, accepted = match.groups()
-            found.append((name, "None" if accepted else f"breaks {rule} {down} {right}"))
-    return found
-
-
-def answers(path, text, module, crate):
-    """The record of what is answered of each design of a text."""
-    found, word = answered(text), module.lower()
-    words = ["◌≡◌"] + (["None"] if any(term == "None" for _, term in found) else [])
-    helpers = ["first_of"] + (["breaks"] if any(term != "None" for _, term in found) else [])
-    made = [
-        f"-- What is answered of the designs of {path}. Written by tools/syntax-trees.",
-        f"use Rattle.std.specs.Prelude.{{{', '.join(words)}}}",
-        f"use Rattle.{crate}.specs.Answering.{{{', '.join(helpers)}}}",
-        f"use Rattle.{crate}.specs.{module} as {word}",
-        "",
-        f"pub record {module}Answers : Type 0 where",
-    ]
-    return "\n".join(made + [f"  pub {name} : first_of {word}.{name} ≡ {term}" for name, term in found]) + "\n"
-
-
-def proofs(path, text, module, crate):
-    """Its fields, computed one by one, since each may take many steps."""
-    found, word = answered(text), module.lower()
-    words = ["◌≡◌"] + (["None"] if any(term == "None" for _, term in found) else [])
-    helpers = ["first_of"] + (["breaks"] if any(term != "None" for _, term in found) else [])
-    made = [
-        f"-- What is answered of the designs of {path}, computed. Written by tools/syntax-trees.",
-        "use Rattle.std.proofs.Common.{refl}",
-        "use Rattle.std.specs.Char.{encode_utf8}",
-        "use Rattle.std.specs.Fmt.{digits}",
-        f"use Rattle.std.specs.Prelude.{{{', '.join(words)}}}",
-        "use Rattle.std.specs.Str.{chars, is_utf8}",
-        "use Rattle.vd_given.specs.Table.{logic_operators, logic_types, standard_operators, standard_types}",
-        "use Rattle.vd_regions.specs.InOrder.{selected_in_order, visible_in}",
-        f"use Rattle.{crate}.specs.Answering.{{{', '.join(helpers)}}}",
-        f"use Rattle.{crate}.specs.{module} as {word}",
-        f"use Rattle.{crate}.specs.{module}Answers.{{{module}Answers}}",
-    ]
-    for name, term in found:
-        made += ["", f"{name}_answered : first_of {word}.{name} ≡ {term}", f"unfolding {UNFOLDED}", f"{name}_answered = refl"]
-    made += ["", f"pub {word}_answered : {module}Answers", f"{word}_answered = record {{"]
-    return "\n".join(made + [f"  {name} = {name}_answered;" for name, _ in found] + ["}"]) + "\n"

@@ -11,8 +11,6 @@ mod outs;
 pub mod places;
 pub mod reading;
 pub mod sure_tray;
-#[cfg(test)]
-mod tests;
 pub mod texts;
 pub mod tray;
 pub mod writing;

@@ -5,8 +5,6 @@
 pub mod covering;
 pub mod intervals;
 pub mod patterns;
-#[cfg(test)]
-mod tests;
 pub mod texts;
 
 pub use covering::texts_cover;

@@ -12,8 +12,6 @@ mod parts;
 pub mod ranges;
 mod replacing;
 pub mod scalars;
-#[cfg(test)]
-mod tests;
 pub mod value;
 mod vectors;
 

@@ -14,8 +14,3 @@ mod words;
 
 pub use selected::{Line, Lines, Selected};
 pub use settings::Settings;
-
-#[cfg(test)]
-mod tests_plain;
-#[cfg(test)]
-mod tests_select;

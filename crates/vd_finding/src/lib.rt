@@ -2,7 +2,5 @@
 #![tactic(auto)]
 
 pub mod finding;
-#[cfg(test)]
-mod tests;
 
 pub use finding::{Finding, find_first};

@@ -7,5 +7,3 @@ pub mod names;
 pub mod numbers;
 pub mod processes;
 pub mod resolution;
-#[cfg(test)]
-mod tests;

@@ -5,8 +5,6 @@ mod copying;
 pub mod cursor;
 mod numbers;
 pub mod store;
-#[cfg(test)]
-mod tests;
 pub mod texts;
 
 pub use cursor::{Cursor, Opened};

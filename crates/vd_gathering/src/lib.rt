@@ -2,7 +2,5 @@
 #![tactic(auto)]
 
 pub mod gathering;
-#[cfg(test)]
-mod tests;
 
 pub use gathering::find_all;

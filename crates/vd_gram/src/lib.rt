@@ -12,10 +12,6 @@ mod reading;
 mod stack;
 pub mod steps;
 pub mod tables;
-#[cfg(test)]
-mod test_tables;
-#[cfg(test)]
-mod tests;
 
 pub use checking::check;
 pub use derivation::{Cursor, Derivation, Opened};

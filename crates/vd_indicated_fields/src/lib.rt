@@ -3,8 +3,6 @@
 
 pub mod fields;
 pub mod jumps;
-#[cfg(test)]
-mod tests;
 
 pub use fields::FieldTable;
 pub use jumps::Jump;

@@ -3,8 +3,6 @@
 
 pub mod integers;
 pub mod laws;
-#[cfg(test)]
-mod tests;
 
 pub use integers::{
     integer_absolute, integer_add, integer_divide, integer_modulus, integer_multiply,

@@ -16,5 +16,4 @@ pub mod SameRounds
 pub mod SameRuns
 pub mod SameValues
 pub mod SettledValues
-pub mod TestDesigns
 pub mod ThroughRuns

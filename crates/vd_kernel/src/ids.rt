@@ -73,16 +73,3 @@ impl DriverId {
         self.driver
     }
 }
-
-#[cfg(test)]
-mod tests {
-    use super::*;
-
-    #[test]
-    fn ids_keep_their_numbers(rt: HostRuntime) {
-        assert_eq!(rt; SignalId::of(7).number(), 7);
-        assert_eq!(rt; DriverId::of(8).number(), 8);
-        assert!(rt; SignalId::of(7) == SignalId::of(7));
-        assert!(rt; DriverId::of(7) != DriverId::of(8));
-    }
-}

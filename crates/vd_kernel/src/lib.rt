@@ -17,8 +17,6 @@ mod projections;
 pub mod renumbering;
 pub mod scalars;
 pub mod shape;
-#[cfg(test)]
-mod tests;
 mod values;
 mod walks;
 

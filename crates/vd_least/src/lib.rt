@@ -3,7 +3,5 @@
 
 pub mod laws;
 pub mod least;
-#[cfg(test)]
-mod tests;
 
 pub use least::{Judging, find_least, is_before, is_less, lesser};

@@ -10,8 +10,3 @@ mod tables;
 pub use laws::{one_lexing, some_lexing, spellings_read_back};
 pub use lexer::{lex19, lex93};
 pub use vd_tokens::{Kind, Token, Tokens, spell, spell_into};
-
-#[cfg(test)]
-mod tests_rules;
-#[cfg(test)]
-mod tests_texts;

@@ -6,8 +6,6 @@ pub mod inheriting;
 pub mod laws;
 pub mod rewriting;
 pub mod same;
-#[cfg(test)]
-mod tests;
 mod visits;
 
 pub use folding::{Folding, fold};

@@ -2,6 +2,5 @@ pub mod Designs
 pub mod PastSignals
 pub mod RoundSteps
 pub mod Steps
-pub mod TestDesigns
 pub mod TracedSteps
 pub mod EarliestTimeouts

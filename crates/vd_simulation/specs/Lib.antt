@@ -1,6 +1,5 @@
 pub mod Designs
 pub mod Rounds
 pub mod Simulations
-pub mod TestProcesses
 pub mod TracedSteps
 pub mod Turns

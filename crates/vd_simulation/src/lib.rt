@@ -7,8 +7,6 @@ mod process;
 mod round;
 mod seen;
 mod simulation;
-#[cfg(test)]
-mod tests;
 mod timeouts;
 mod views;
 

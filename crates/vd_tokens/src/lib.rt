@@ -9,6 +9,3 @@ pub mod words;
 pub use kinds::Kind;
 pub use spellings::{spell, spell_into};
 pub use tokens::{Token, Tokens};
-
-#[cfg(test)]
-mod tests_tokens;

@@ -4,8 +4,6 @@
 mod paths;
 mod reports;
 pub mod steps;
-#[cfg(test)]
-mod tests;
 pub mod types;
 mod values;
 

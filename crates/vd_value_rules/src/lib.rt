@@ -14,8 +14,6 @@ pub mod part_facts;
 pub mod parts;
 pub mod statics;
 pub mod subtypes;
-#[cfg(test)]
-mod tests;
 pub mod types;
 
 pub use bounds::{BoundsTable, TreeBounds, all_bounds};

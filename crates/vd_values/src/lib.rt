@@ -5,8 +5,6 @@ pub mod logic;
 pub mod matching;
 pub mod resolution;
 pub mod scalar;
-#[cfg(test)]
-mod tests;
 pub mod times;
 
 pub use logic::{Logic, logic_and, logic_not, logic_or, logic_xor};

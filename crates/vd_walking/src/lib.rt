@@ -2,8 +2,6 @@
 #![tactic(auto)]
 
 mod levels;
-#[cfg(test)]
-mod tests;
 pub mod walking;
 
 pub use walking::{Entry, Outcome, Walking, walk};

@@ -1,5 +1,0 @@
-use Rattle.std.proofs.Common.{◌≤◌, length}
-use Rattle.vd_indicated_fields.proofs.tests.long_record.Given as goal
-
-abbrev pub invariant-loop-behind : goal.invariant-loop-behind
-invariant-loop-behind l = l.made ≤ length l.store

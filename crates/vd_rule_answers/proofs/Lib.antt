@@ -1,3 +1,0 @@
-pub mod NamesAnswers
-pub mod RulesAnswers
-pub mod AcceptedAnswers

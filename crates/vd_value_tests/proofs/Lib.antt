@@ -1,0 +1,2 @@
+pub mod BusDesign
+pub mod PairDesign
