@@ -17,10 +17,11 @@ RULES = {*range(101, 108), *range(111, 114), 201, 202, *range(301, 311), *range(
 
 
 def built_program(script):
-    """The program's path. The launcher builds it where it has to: without words it only says that they aren't taken."""
+    """The proved program's path. The launcher proves and builds it where it has to; then it checks no file."""
     with tempfile.TemporaryDirectory() as folder:
-        done = subprocess.run([LAUNCHER], cwd=folder, stdin=subprocess.DEVNULL, stdout=subprocess.PIPE, stderr=subprocess.PIPE, check=False)
-    if done.returncode != 2 or done.stdout != b"refused words\n":
+        how = {"cwd": folder, "env": {**os.environ, "VDOWN": "proved,quiet"}, "stdin": subprocess.DEVNULL, "stdout": subprocess.PIPE, "stderr": subprocess.PIPE}
+        done = subprocess.run([LAUNCHER, "--do", "check"], check=False, **how)
+    if done.returncode != 0 or done.stdout != b"accepted 0 units\n":
         sys.exit("%s: the program can't be built or run: status %d\n%s" % (script, done.returncode, done.stderr.decode("latin-1")))
     return PROGRAM
 
