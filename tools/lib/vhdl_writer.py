@@ -128,10 +128,10 @@ class Writer:
         if "Forest" in self.words:
             made.append("use Rattle.vd_resolved.specs.declared.node.Resolved.{Resolved}")
         if "class." in text:
-            made.append("use Rattle.vd_given.specs.Entries.{declared}")
+            made.append("use Rattle.vd_predefined.specs.Entries.{declared}")
         used = [name for name in CONSTANTS if name in self.used and is_word(name, text)]
         if used:
-            made.append(f"use Rattle.vd_given.specs.declared.numbers.TheConstants.{{{', '.join(used)}}}")
+            made.append(f"use Rattle.vd_predefined.specs.declared.numbers.TheConstants.{{{', '.join(used)}}}")
         nodes = [w for w in ("node", "plain", "absent", "of", "leaf") if w in self.words]
         if nodes:
             made.append(f"use Rattle.{self.nodes}.{{{', '.join(nodes)}}}")

@@ -1,13 +1,13 @@
 -- The groups that are asked apart and those of one walk are all groups.
 use Rattle.std.proofs.Common.{◌≡◌, Option, ap, ap₂, sym, ◌∙◌}
 use Rattle.vd_bytes.specs.declared.answers.Refused.{Refused}
-use Rattle.vd_least.proofs.OrderLaws.{lesser_brackets}
-use Rattle.vd_least.specs.Least.{lesser}
+use Rattle.vd_walks.proofs.OrderLaws.{lesser_brackets}
+use Rattle.vd_walks.specs.Least.{lesser}
 use Rattle.vd_resolved.specs.Trees.{ResolvedTree}
-use Rattle.vd_rule_groups.proofs.FirstLemmas.{lesser_either}
-use Rattle.vd_rule_groups.proofs.GroupLemmas.{firsts_of_either, groups_are_all}
-use Rattle.vd_rule_groups.specs.Groups.{aggregates, all_firsts, assignments, bodies, bounds, choices, either_group, firsts_by, firsts_of, instances, joined_firsts, names_in_functions, names_used, operators, static_expressions, types, view_ports}
-use Rattle.vd_rule_groups.specs.declared.firsts.Firsts.{Firsts}
+use Rattle.vd_value_rules.proofs.FirstLemmas.{lesser_either}
+use Rattle.vd_value_rules.proofs.GroupLemmas.{firsts_of_either, groups_are_all}
+use Rattle.vd_value_rules.specs.Groups.{aggregates, all_firsts, assignments, bodies, bounds, choices, either_group, firsts_by, firsts_of, instances, joined_firsts, names_in_functions, names_used, operators, static_expressions, types, view_ports}
+use Rattle.vd_value_rules.specs.declared.firsts.Firsts.{Firsts}
 use Rattle.vd_trees.specs.declared.revision.Revision.{Revision}
 use Rattle.vd_value_rules.specs.Rules.{broken_in}
 use Rattle.vd_accepting.specs.Walking.{asked}

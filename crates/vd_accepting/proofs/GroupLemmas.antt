@@ -1,9 +1,9 @@
 -- The first refusals of six groups of rules. No name has a dash, so that a caller can name each in `#[tactic(auto, using(..))]`.
 use Rattle.std.proofs.Common.{◌++◌, ◌≡◌, List, ap₂, sym, ◌∙◌, Option}
 use Rattle.vd_bytes.specs.declared.answers.Refused.{Refused}
-use Rattle.vd_rule_groups.proofs.FirstLemmas.{first_of_both}
-use Rattle.vd_rule_groups.specs.Groups.{firsts_of, is_of_rules, joined_firsts}
-use Rattle.vd_rule_groups.specs.declared.firsts.Firsts.{Firsts}
+use Rattle.vd_value_rules.proofs.FirstLemmas.{first_of_both}
+use Rattle.vd_value_rules.specs.Groups.{firsts_of, is_of_rules, joined_firsts}
+use Rattle.vd_value_rules.specs.declared.firsts.Firsts.{Firsts}
 use Rattle.vd_value_rules.specs.Rules.{is_of_names}
 
 pub firsts_of_both : (rs qs : List Refused) → firsts_of (rs ++ qs) ≡ joined_firsts (firsts_of rs) (firsts_of qs)

@@ -1,7 +1,7 @@
 -- Trees side by side, one after the other. No name has a dash, so that a caller can name each in `#[tactic(auto, using(..))]`.
 use Rattle.std.proofs.Common.{◌+◌, ◌-◌, ◌<◌, ◌≤◌, ◌≡◌, ◌∙◌, ◌∷◌, List, [], ap, arith, drop, length, refl, suc, zero, ℕ}
-use Rattle.vd_standings.specs.Standing.{standings_in}
-use Rattle.vd_standings.specs.declared.standings.Standing.{Standing}
+use Rattle.vd_contexts.specs.Standing.{standings_in}
+use Rattle.vd_contexts.specs.declared.standings.Standing.{Standing}
 use Rattle.vd_value_rules.specs.Designs.{Design}
 use Rattle.vd_value_rules.specs.Standings.{further_standings}
 

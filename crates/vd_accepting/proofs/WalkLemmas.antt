@@ -1,16 +1,16 @@
 -- Steps of the walk.
 use Rattle.std.proofs.Common.{◌++◌, ◌≡◌, ◌∙◌, ◌∷◌, List, [], ap, refl, reverse, subst, sym}
 use Rattle.std.proofs.lemmas.List.{reverse-append}
-use Rattle.vd_following.specs.Positions.{Along, Down, Position, Tree, passed, tree_with}
+use Rattle.vd_walks.specs.Positions.{Along, Down, Position, Tree, passed, tree_with}
 use Rattle.vd_forest.specs.Forest.{Forest, more, nothing}
 use Rattle.vd_forms.specs.declared.form.Form.{Form}
 use Rattle.vd_forest.proofs.StoreLemmas.{extends_same}
 use Rattle.vd_forest.specs.Store.{Extends}
 use Rattle.vd_known_designs.specs.Designs.{IsReady, Knows}
 use Rattle.vd_known_designs.specs.declared.design.KnownDesign.{KnownDesign}
-use Rattle.vd_known_objects.proofs.ObjectLemmas.{knows_changed}
-use Rattle.vd_known_tables.specs.Known.{AreKnown}
-use Rattle.vd_known_tables.specs.declared.table.KnownTable.{KnownTable}
+use Rattle.vd_known_forms.proofs.ObjectLemmas.{knows_changed}
+use Rattle.vd_known_designs.specs.Known.{AreKnown}
+use Rattle.vd_known_designs.specs.declared.table.KnownTable.{KnownTable}
 use Rattle.vd_resolved.specs.declared.node.Resolved.{Resolved}
 use Rattle.vd_value_rules.specs.Declaring.{declaring, unit_declared_by, units_declared}
 use Rattle.vd_value_rules.specs.Designs.{Design}

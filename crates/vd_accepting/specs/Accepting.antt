@@ -5,11 +5,11 @@ use Rattle.vd_bytes.specs.declared.answers.Refusal.TheVariants.{Memory, Refused}
 use Rattle.vd_bytes.specs.declared.answers.Refused.{Refused as AnyRefused}
 use Rattle.vd_forest.specs.Forest.{Forest}
 use Rattle.vd_forms.specs.declared.form.Form.{Form}
-use Rattle.vd_least.specs.Least.{lesser}
+use Rattle.vd_walks.specs.Least.{lesser}
 use Rattle.vd_resolved.specs.Trees.{ResolvedTree}
-use Rattle.vd_rules.specs.Phases.{IsAccepted, first_broken, resolved_design}
+use Rattle.vd_accepting.specs.Phases.{IsAccepted, first_broken, resolved_design}
 use Rattle.vd_call_rules.specs.Calls.{first_refused as first_of_calls}
-use Rattle.vd_chain_rules.specs.Chains.{first_refused as first_of_chains}
+use Rattle.vd_call_rules.specs.Chains.{first_refused as first_of_chains}
 use Rattle.vd_structure_rules.specs.StructureRules.{first_refused as first_of_structure}
 use Rattle.vd_trees.specs.declared.revision.Revision.{Revision}
 

@@ -1,6 +1,6 @@
 -- Places, in memory.
 use Rattle.std.specs.Prelude.{◌≡◌, ◌∷◌, List, [], drop}
-use Rattle.vd_standings.specs.Standing.{standings_in}
+use Rattle.vd_contexts.specs.Standing.{standings_in}
 use Rattle.vd_value_rules.specs.Designs.{Design}
 use Rattle.vd_value_rules.specs.Standings.{State, further_standings}
 use Rattle.vd_accepting.specs.declared.levels.Level.{Level}

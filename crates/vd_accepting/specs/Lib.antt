@@ -1,3 +1,4 @@
+pub mod Phases
 pub mod Accepting
 pub mod Levels
 pub mod Walking

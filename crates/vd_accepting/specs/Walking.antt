@@ -1,14 +1,14 @@
 -- One walk for the rules that hang on what is known of declarations.
 use Rattle.std.specs.Prelude.{◌≡◌, ◌∷◌, List, map, reverse}
 use Rattle.vd_bytes.specs.declared.answers.Refused.{Refused}
-use Rattle.vd_following.specs.Positions.{Position, Tree, judged, state_at}
+use Rattle.vd_walks.specs.Positions.{Position, Tree, judged, state_at}
 use Rattle.vd_forest.specs.Forest.{Forest}
 use Rattle.vd_forms.specs.declared.form.Form.{Form}
 use Rattle.vd_known_designs.specs.Designs.{Knows}
 use Rattle.vd_known_designs.specs.declared.design.KnownDesign.{KnownDesign}
 use Rattle.vd_port_modes.specs.Source.{design_in}
 use Rattle.vd_resolved.specs.declared.node.Resolved.{Resolved}
-use Rattle.vd_rule_groups.specs.Groups.{Breaking, aggregates, bounds, choices, either_group, firsts_of, instances, judge_by, static_expressions, types}
+use Rattle.vd_value_rules.specs.Groups.{Breaking, aggregates, bounds, choices, either_group, firsts_of, instances, judge_by, static_expressions, types}
 use Rattle.vd_value_rules.specs.Declaring.{declaring, unit_declared_by, units_declared}
 use Rattle.vd_value_rules.specs.Designs.{Design}
 use Rattle.vd_value_rules.specs.Knowledge.{Known}

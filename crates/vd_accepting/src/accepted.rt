@@ -4,11 +4,11 @@ ghost use Rattle.std.specs.Prelude.{◌≡◌, IfOk};
 ghost use Rattle.vd_accepting.specs.Accepting.{IsAnswer, MeetsRules};
 ghost use Rattle.vd_forest.specs.Forest.{Forest};
 ghost use Rattle.vd_forms.specs.declared.form.Form.{Form as AnyForm};
-ghost use Rattle.vd_rules.specs.Phases.{first_broken, resolved_design};
+ghost use Rattle.vd_accepting.specs.Phases.{first_broken, resolved_design};
 ghost use Rattle.vd_trees.specs.declared.revision.Revision.{Revision as AnyRevision};
 ghost use Rattle.vd_trees.specs.declared.revision.Revision.TheVariants.{V1993, V2019};
 ghost use Rattle.vd_weighing.specs.Limits.{at_most};
-ghost use Rattle.vd_weights.specs.Weights.{weight_of};
+ghost use Rattle.vd_weighing.specs.Weights.{weight_of};
 
 use crate::judging::{Judgement, judge};
 use std::alloc::{AllocError, Global};

@@ -1,19 +1,17 @@
 //! What a resolved design breaks of the rules that need types, values, modes and static names.
 
 ghost use Rattle.std.specs.Prelude.{◌≡◌, IfOk};
-ghost use Rattle.vd_rule_groups.specs.Groups.{firsts_of};
+ghost use Rattle.vd_value_rules.specs.Groups.{firsts_of};
 ghost use Rattle.vd_value_rules.specs.Rules.{broken_in};
 
 use crate::value_refusals;
 use std::alloc::{AllocError, Global};
-use vd_assignment_rules::assignment_refusals;
 use vd_body_rules::body_refusals;
 use vd_function_names::foreign_refusals;
-use vd_name_rules::{name_refusals, view_port_refusals};
-use vd_operator_rules::operator_refusals;
+use vd_name_rules::{assignment_refusals, name_refusals, operator_refusals, view_port_refusals};
 use vd_resolved::Tree;
-use vd_rule_groups::{Firsts, together};
 use vd_trees::Revision;
+use vd_value_rules::{Firsts, together};
 
 /// The first refusals of all groups of rules.
 pub fn first_of_groups(alloc: Global, revision: Revision, tree: &Tree) -> Result<Firsts, AllocError>

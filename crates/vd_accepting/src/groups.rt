@@ -19,9 +19,8 @@ use vd_known_indications::Surroundings;
 use vd_port_facts::PortFacts;
 use vd_port_modes::Interfaces;
 use vd_resolved::Resolved;
-use vd_rule_groups::{Firsts, together};
-use vd_static_rules::static_refusals;
-use vd_type_rules::type_refusals;
+use vd_static_rules::{static_refusals, type_refusals};
+use vd_value_rules::{Firsts, together};
 
 /// The first refusals of a node.
 pub(crate) fn refusals(

@@ -14,16 +14,16 @@ ghost use Rattle.vd_value_rules.specs.Indicated.{static_of};
 use std::alloc::{AllocError, Global};
 use vd_bytes::Place;
 use vd_declarations::{Class, DeclId};
-use vd_facets::{declaration_of, is_present, number_made};
 use vd_forest::Cursor;
 use vd_forms::Form;
 use vd_known_designs::KnownDesign;
+use vd_known_forms::objects::later_objects;
 use vd_known_indications::node;
-use vd_known_objects::objects::later_objects;
 use vd_operations::tables::class_of;
+use vd_operations::{declaration_of, is_present, number_made};
 use vd_port_modes::Interfaces;
 use vd_resolved::Resolved;
-use vd_static_entries::Sense;
+use vd_static_values::Sense;
 use vd_value_rules::StaticSort;
 
 /// The declaration of the type of an expression.

@@ -2,22 +2,21 @@
 
 ghost use Rattle.std.specs.Prelude.{◌≡◌, IfOk};
 ghost use Rattle.vd_accepting.specs.Accepting.{first_of_rules as first_among_rules};
-ghost use Rattle.vd_finding.specs.Finding.{or_else};
-ghost use Rattle.vd_rules.specs.Phases.{first_broken, resolved_design};
+ghost use Rattle.vd_walks.specs.Finding.{or_else};
+ghost use Rattle.vd_accepting.specs.Phases.{first_broken, resolved_design};
 
 use crate::all_groups::first_of_groups;
 use std::alloc::{AllocError, Global};
 use vd_bytes::Refused;
-use vd_call_rules::first_call_refusal;
-use vd_chain_rules::first_chain_refusal;
+use vd_call_rules::{first_call_refusal, first_chain_refusal};
 use vd_forest::Cursor;
 use vd_forms::Form;
-use vd_least::lesser;
 use vd_name_resolution::resolve_names;
 use vd_resolved::Tree;
 use vd_structure_rules::first_structure_refusal;
 use vd_text_rules::first_text_refusal;
 use vd_trees::Revision;
+use vd_walks::lesser;
 
 /// A resolved design, and the first rule that it breaks.
 #[derive(Drop)]

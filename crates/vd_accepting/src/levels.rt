@@ -2,15 +2,15 @@
 
 ghost use Rattle.std.specs.Prelude.{◌≡◌, ◌||◌, drop};
 ghost use Rattle.vd_known_indications.specs.Places.{IsAround};
-ghost use Rattle.vd_standings.specs.Standing.{standing_of, standings_in};
+ghost use Rattle.vd_contexts.specs.Standing.{standing_of, standings_in};
 ghost use Rattle.vd_value_rules.specs.Designs.{Design};
 ghost use Rattle.vd_value_rules.specs.Standings.{State, further_standings, standing as standing_in};
 ghost use Rattle.vd_accepting.specs.Levels.{IsBehind, IsLevel};
 
 use vd_bytes::Place;
+use vd_contexts::Standing;
+use vd_contexts::lists::is_bounded;
 use vd_known_indications::Surroundings;
-use vd_standings::Standing;
-use vd_standings::lists::is_bounded;
 
 /// A place, beside what is known there.
 #[derive(Drop)]

@@ -1,3 +1,5 @@
+//! The first rule that a design breaks, of both revisions: definitions that contracts cite.
+//!
 //! Designs that meet the rules of their revision, or else the first rule that they break: names first, then types, values and structure.
 #![tactic(auto)]
 

@@ -2,11 +2,11 @@
 
 ghost use Rattle.std.specs.Prelude.{◌≡◌, ◌++◌, ◌∷◌, IfOk, List, OnOk};
 ghost use Rattle.vd_bytes.specs.declared.answers.Refused.{Refused};
-ghost use Rattle.vd_following.specs.Positions.{Along, Down, IsAtEnd, IsAtPlace, Position, passed, tree_of};
+ghost use Rattle.vd_walks.specs.Positions.{Along, Down, IsAtEnd, IsAtPlace, Position, passed, tree_of};
 ghost use Rattle.vd_known_designs.specs.Designs.{IsReady, Knows};
 ghost use Rattle.vd_known_indications.specs.Places.{IsRemembering};
 ghost use Rattle.vd_port_modes.specs.Source.{design_in};
-ghost use Rattle.vd_rule_groups.specs.Groups.{firsts_by, firsts_of};
+ghost use Rattle.vd_value_rules.specs.Groups.{firsts_by, firsts_of};
 ghost use Rattle.vd_value_rules.specs.Declaring.{declaring, unit_declared_by, units_declared as all_declared};
 ghost use Rattle.vd_value_rules.specs.Designs.{Design};
 ghost use Rattle.vd_value_rules.specs.Knowledge.{Known};
@@ -19,7 +19,7 @@ use crate::insides::{are_parts_copied, known_in_parts, label_of_parts};
 use crate::levels::{Level, either, go_on, standing, surroundings};
 use std::alloc::{AllocError, Global};
 use std::mem;
-use vd_following::{Following, follow};
+use vd_contexts::standings_of;
 use vd_forest::{Cursor, Opened};
 use vd_forms::Form;
 use vd_known_designs::KnownDesign;
@@ -27,9 +27,9 @@ use vd_known_units::{unit_declared, units_declared};
 use vd_port_facts::PortFacts;
 use vd_port_modes::Interfaces;
 use vd_resolved::{Resolved, Tree};
-use vd_rule_groups::{Firsts, nothing_refused, together};
-use vd_standings::standings_of;
 use vd_trees::Revision;
+use vd_value_rules::{Firsts, nothing_refused, together};
+use vd_walks::{Following, follow};
 
 /// A walk over a resolved design.
 #[derive(Drop)]

@@ -6,11 +6,11 @@ use Rattle.vd_environments.specs.Environments.{Env}
 use Rattle.vd_forest.specs.Forest.{Forest}
 use Rattle.vd_forms.specs.declared.form.Form.{Form}
 use Rattle.vd_given_choices.proofs.RuleLemmas.{AreOfRules, both_of_rules, firsts_of_rules, not_static_of_rules, one_of_rules, repeated_of_rules}
-use Rattle.vd_least.specs.Least.{least_of}
+use Rattle.vd_walks.specs.Least.{least_of}
 use Rattle.vd_meaning.specs.Meanings.{meanings}
 use Rattle.vd_meaning.specs.Names.{number_or}
 use Rattle.vd_resolved.specs.declared.node.Resolved.{Resolved}
-use Rattle.vd_rule_groups.specs.Groups.{firsts_of}
+use Rattle.vd_value_rules.specs.Groups.{firsts_of}
 use Rattle.vd_value_rules.specs.Aggregates.{FieldGiven, aggregate_broken, aggregate_of_form, array_broken, array_leaves_out, broken_aggregate, choices_of_elements, fields_given, fields_repeated, has_others_element, is_given_at, is_record_class, record_broken, record_leaves_out, unless_one}
 use Rattle.vd_value_rules.specs.Choices.{Given, early_bounds, not_static, repeated, share}
 use Rattle.vd_value_rules.specs.Designs.{Design, class_of}

@@ -5,7 +5,7 @@ use Rattle.vd_bytes.specs.declared.answers.Refused.{Refused}
 use Rattle.vd_bytes.specs.declared.places.Place.{Place}
 use Rattle.vd_environments.specs.Environments.{Env}
 use Rattle.vd_forest.specs.Forest.{Forest}
-use Rattle.vd_least.specs.Least.{least_of}
+use Rattle.vd_walks.specs.Least.{least_of}
 use Rattle.vd_meaning.specs.Meanings.{meanings}
 use Rattle.vd_resolved.specs.declared.node.Resolved.{Resolved}
 use Rattle.vd_value_rules.specs.Aggregates.{aggregate_broken, array_broken, choices_of_elements, is_record_class, record_broken, unless_one}

@@ -16,8 +16,8 @@ use Rattle.vd_given_choices.proofs.RefusalLemmas.{bounds_found, same_left_out}
 use Rattle.vd_given_choices.specs.Choices.{AreChoices}
 use Rattle.vd_given_choices.specs.Refusals.{bounds_in, those_known}
 use Rattle.vd_given_choices.specs.declared.choices.Choice.{Choice}
-use Rattle.vd_least.specs.Least.{least_of, lesser}
-use Rattle.vd_least.proofs.LeastLaws.{least_of_append}
+use Rattle.vd_walks.specs.Least.{least_of, lesser}
+use Rattle.vd_walks.proofs.LeastLaws.{least_of_append}
 use Rattle.vd_resolved.specs.declared.node.Resolved.{Resolved}
 use Rattle.vd_value_rules.specs.Aggregates.{array_broken, array_leaves_out, choices_of_association, choices_of_elements, has_others_element, leave_gap}
 use Rattle.vd_value_rules.specs.Choices.{Given, are_covered, choices_given, early_bounds, not_static, repeated, share}

@@ -8,9 +8,9 @@ use Rattle.vd_bytes.specs.declared.answers.Refused.{Refused}
 use Rattle.vd_bytes.specs.declared.places.Place.{Place}
 use Rattle.vd_forest.specs.Forest.{Forest, more, nothing, parts_of}
 use Rattle.vd_forms.specs.declared.form.Form.{Form}
-use Rattle.vd_least.specs.Least.{least_of, lesser}
-use Rattle.vd_least.proofs.LeastLaws.{least_of_append}
-use Rattle.vd_least.proofs.OrderLaws.{lesser_right}
+use Rattle.vd_walks.specs.Least.{least_of, lesser}
+use Rattle.vd_walks.proofs.LeastLaws.{least_of_append}
+use Rattle.vd_walks.proofs.OrderLaws.{lesser_right}
 use Rattle.vd_given_choices.proofs.ChoiceLemmas.{none_behind}
 use Rattle.vd_given_choices.proofs.RefusalLemmas.{more_refused}
 use Rattle.vd_meaning.specs.Facets.{nth}

@@ -3,9 +3,9 @@
 ghost use Rattle.std.specs.Prelude.{◌≡◌, ◌∷◌, IfOk, List, OnOk};
 ghost use Rattle.vd_known_designs.specs.Designs.{IsReady, Knows};
 ghost use Rattle.vd_known_indications.specs.Places.{Finds};
-ghost use Rattle.vd_least.specs.Least.{least_of};
+ghost use Rattle.vd_walks.specs.Least.{least_of};
 ghost use Rattle.vd_port_modes.specs.Source.{design_in};
-ghost use Rattle.vd_rule_groups.specs.Groups.{aggregates};
+ghost use Rattle.vd_value_rules.specs.Groups.{aggregates};
 ghost use Rattle.vd_value_rules.specs.Aggregates.{aggregate_broken, broken_aggregate, is_record_class, unless_one};
 ghost use Rattle.vd_value_rules.specs.Designs.{Design, class_of as class_in};
 ghost use Rattle.vd_value_rules.specs.Knowledge.{Known};
@@ -25,8 +25,8 @@ use vd_known_indications::Surroundings;
 use vd_operations::tables::{class_of, parameters_of};
 use vd_port_modes::Interfaces;
 use vd_resolved::Resolved;
-use vd_rule_groups::Firsts;
 use vd_static_parts::numbers::number_or;
+use vd_value_rules::Firsts;
 use vd_value_rules::subtypes::has_bounds;
 
 /// Whether what a declaration stands for has bounds.

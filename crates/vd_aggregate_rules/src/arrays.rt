@@ -5,7 +5,7 @@ ghost use Rattle.vd_environments.specs.Environments.{Env};
 ghost use Rattle.vd_forest.specs.Forest.{Forest};
 ghost use Rattle.vd_given_choices.specs.Choices.{AreChoices};
 ghost use Rattle.vd_known_designs.specs.Designs.{IsReady, Knows};
-ghost use Rattle.vd_least.specs.Least.{least_of};
+ghost use Rattle.vd_walks.specs.Least.{least_of};
 ghost use Rattle.vd_resolved.specs.declared.node.Resolved.{Resolved as resolved};
 ghost use Rattle.vd_value_rules.specs.Aggregates.{array_broken, array_leaves_out, choices_of_association, choices_of_elements, has_others_element};
 ghost use Rattle.vd_value_rules.specs.Choices.{Given};
@@ -16,17 +16,16 @@ use crate::elements::{has_others, is_left_out};
 use crate::spans::chosen_bounds;
 use std::alloc::{AllocError, Global};
 use vd_bytes::{Place, Refused};
-use vd_choice_covering::are_covered;
 use vd_forest::{Cursor, Opened};
 use vd_forms::Form;
 use vd_given_choices::{
-    Choice, add_choices, are_all_known, choices_given, first_not_static, first_repeated,
-    known_bounds,
+    Choice, add_choices, are_all_known, are_covered, choices_given, first_not_static,
+    first_repeated, known_bounds,
 };
 use vd_known_designs::KnownDesign;
-use vd_least::lesser;
 use vd_resolved::Resolved;
-use vd_rule_groups::refused_if;
+use vd_value_rules::refused_if;
+use vd_walks::lesser;
 
 /// The choices of an element.
 fn choices_at(

@@ -4,7 +4,7 @@ ghost use Rattle.indexmap.specs.IndexSet.{contains};
 ghost use Rattle.std.specs.Prelude.{◌≡◌, ◌++◌, ◌∷◌, IfOk, List, OnOk, map, nat_eq, suc, ℕ};
 ghost use Rattle.vd_aggregate_rules.specs.Fields.{field_given, fields_broken};
 ghost use Rattle.vd_known_designs.specs.Designs.{IsReady, Knows};
-ghost use Rattle.vd_least.specs.Least.{least_of};
+ghost use Rattle.vd_walks.specs.Least.{least_of};
 ghost use Rattle.vd_meaning.specs.Facets.{nth};
 ghost use Rattle.vd_meaning.specs.Meanings.{meanings};
 ghost use Rattle.vd_value_rules.specs.Aggregates.{FieldGiven, fields_given as given_fields, fields_of_choices, fields_of_form, is_given_at, record_broken, record_leaves_out};
@@ -19,9 +19,9 @@ use vd_forest::{Cursor, Opened};
 use vd_forms::Form;
 use vd_known_designs::KnownDesign;
 use vd_known_indications::node;
-use vd_least::lesser;
 use vd_resolved::Resolved;
-use vd_rule_groups::refused_if;
+use vd_value_rules::refused_if;
+use vd_walks::lesser;
 
 /// An element that is given, by its position, and where.
 #[derive(Clone, Copy)]

@@ -4,8 +4,8 @@ ghost use Rattle.std.specs.Prelude.{◌≡◌, false};
 ghost use Rattle.vd_aggregate_rules.specs.Spans.{span_in, spanned_with, wider};
 ghost use Rattle.vd_composites.specs.Aggregates.{chosen_bounds as bounds_chosen, greater as greater_of, lesser as lesser_of};
 
-use vd_choice_covering::ranges::{high, is_null, low};
 use vd_composites::Bounds;
+use vd_given_choices::covering_ranges::{high, is_null, low};
 
 fn lesser(a: i64, b: i64) -> i64
     ensures { result ≡ lesser_of a b }

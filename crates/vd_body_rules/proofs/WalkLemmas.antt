@@ -13,15 +13,15 @@ use Rattle.vd_bytes.specs.declared.answers.Refused.{Refused}
 use Rattle.vd_bytes.specs.declared.places.Place.{Place}
 use Rattle.vd_forest.specs.Forest.{Forest, more, nothing}
 use Rattle.vd_forms.specs.declared.form.Form.{Form}
-use Rattle.vd_least.proofs.OrderLaws.{lesser_brackets}
-use Rattle.vd_least.specs.Least.{Judge, least, least_of, lesser}
+use Rattle.vd_walks.proofs.OrderLaws.{lesser_brackets}
+use Rattle.vd_walks.specs.Least.{Judge, least, least_of, lesser}
 use Rattle.vd_meaning.specs.Meanings.{made}
 use Rattle.vd_meaning.specs.Names.{number_or}
 use Rattle.vd_resolved.specs.Trees.{ResolvedTree}
 use Rattle.vd_resolved.specs.declared.node.Resolved.{Resolved}
-use Rattle.vd_rule_groups.proofs.WalkLemmas.{firsts_of_rules_alone, least_alike}
-use Rattle.vd_rule_groups.specs.Groups.{bodies, firsts_by, judge_by}
-use Rattle.vd_rule_groups.specs.declared.firsts.Firsts.{Firsts}
+use Rattle.vd_value_rules.proofs.WalkLemmas.{firsts_of_rules_alone, least_alike}
+use Rattle.vd_value_rules.specs.Groups.{bodies, firsts_by, judge_by}
+use Rattle.vd_value_rules.specs.declared.firsts.Firsts.{Firsts}
 use Rattle.vd_trees.specs.declared.revision.Revision.{Revision}
 use Rattle.vd_value_rules.specs.Bodies.{body_broken, differs}
 use Rattle.vd_value_rules.specs.Declaring.{declaring}
@@ -30,7 +30,7 @@ use Rattle.vd_value_rules.specs.Judging.{refused_if}
 use Rattle.vd_value_rules.specs.Knowledge.{meaning_at}
 use Rattle.vd_value_rules.specs.Rules.{is_of_names}
 use Rattle.vd_value_rules.specs.Standings.{State, beginning}
-use Rattle.vd_walking.specs.Walking.{Walked, followed, walked}
+use Rattle.vd_walks.specs.Walking.{Walked, followed, walked}
 use Rattle.vd_body_rules.specs.declared.declaring.Declares.TheVariants as declares
 use Rattle.vd_forms.specs.declared.form.Form.TheVariants as form
 

@@ -4,7 +4,7 @@ use Rattle.vd_body_rules.specs.Texts.{known_texts, texted}
 use Rattle.vd_body_rules.specs.declared.declaring.Declares.{Declares}
 use Rattle.vd_body_rules.specs.declared.walk.Kept.{Kept}
 use Rattle.vd_forest.specs.Forest.{Forest}
-use Rattle.vd_least.specs.Least.{least_of, lesser}
+use Rattle.vd_walks.specs.Least.{least_of, lesser}
 use Rattle.vd_meaning.specs.Meanings.{made}
 use Rattle.vd_meaning.specs.Names.{number_or}
 use Rattle.vd_resolved.specs.declared.node.Resolved.{Resolved}
@@ -13,7 +13,7 @@ use Rattle.vd_value_rules.specs.Declaring.{declaring}
 use Rattle.vd_value_rules.specs.Designs.{Design}
 use Rattle.vd_value_rules.specs.Knowledge.{meaning_at, nothing_known}
 use Rattle.vd_value_rules.specs.Standings.{State, beginning}
-use Rattle.vd_walking.specs.Walking.{Inside, Walker}
+use Rattle.vd_walks.specs.Walking.{Inside, Walker}
 use Rattle.vd_body_rules.specs.declared.declaring.Declares.TheVariants as declares
 
 -- where these texts of functions are known

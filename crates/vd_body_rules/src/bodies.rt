@@ -3,7 +3,7 @@
 ghost use Rattle.std.specs.Prelude.{◌≡◌, IfOk};
 ghost use Rattle.vd_body_rules.specs.Texts.{known_texts, or_nothing, texted};
 ghost use Rattle.vd_body_rules.specs.Walk.{knowing, texts_left as texts_behind};
-ghost use Rattle.vd_least.specs.Least.{least_of};
+ghost use Rattle.vd_walks.specs.Least.{least_of};
 ghost use Rattle.vd_meaning.specs.Meanings.{made};
 ghost use Rattle.vd_meaning.specs.Names.{number_or};
 ghost use Rattle.vd_value_rules.specs.Bodies.{body_broken, differs as differ};
@@ -14,15 +14,15 @@ ghost use Rattle.vd_value_rules.specs.Knowledge.{meaning_at};
 ghost use Rattle.vd_forms.specs.declared.form.Form.TheVariants as forms;
 
 use crate::declaring::{Declares, declared_by};
+use crate::differs;
 use crate::texts::Texts;
 use std::alloc::{AllocError, Global};
-use vd_body_likeness::differs;
 use vd_bytes::{Place, Refused};
-use vd_facets::number_made;
 use vd_forest::{Cursor, Opened};
 use vd_forms::Form;
+use vd_operations::number_made;
 use vd_resolved::Resolved;
-use vd_rule_groups::refused_if;
+use vd_value_rules::refused_if;
 
 /// The number of the function that a node declares.
 fn function_number(node: &Opened<'_, Resolved>) -> u32

@@ -2,7 +2,7 @@
 
 ghost use Rattle.std.specs.Prelude.{◌≡◌, IfOk};
 ghost use Rattle.vd_body_rules.specs.Walk.{bodies_walker};
-ghost use Rattle.vd_rule_groups.specs.Groups.{bodies, firsts_by};
+ghost use Rattle.vd_value_rules.specs.Groups.{bodies, firsts_by};
 ghost use Rattle.vd_value_rules.specs.Designs.{design_of};
 
 use crate::bodies::{refused_at, texts_left};
@@ -11,11 +11,10 @@ use std::alloc::{AllocError, Global};
 use std::mem;
 use vd_bytes::Refused;
 use vd_forest::{Opened, Store};
-use vd_least::lesser;
 use vd_resolved::{Resolved, Tree};
-use vd_rule_groups::Firsts;
 use vd_trees::Revision;
-use vd_walking::{Entry, Outcome, Walking, walk};
+use vd_value_rules::Firsts;
+use vd_walks::{Entry, Outcome, Walking, lesser, walk};
 
 /// What is kept of a node while its parts are walked: how many texts there were in front of it, and its refusal.
 #[derive(Clone, Copy)]

@@ -10,14 +10,14 @@ use Rattle.vd_bound_rules.specs.declared.sorts.Operands.TheVariants as operands
 use Rattle.vd_bytes.specs.declared.answers.Refused.{Refused}
 use Rattle.vd_bytes.specs.declared.places.Place.{Place}
 use Rattle.vd_forest.specs.Forest.{Forest, more, nothing, skipped}
-use Rattle.vd_least.proofs.LeastLaws.{least_of_append}
-use Rattle.vd_least.specs.Least.{least_of, lesser}
+use Rattle.vd_walks.proofs.LeastLaws.{least_of_append}
+use Rattle.vd_walks.specs.Least.{least_of, lesser}
 use Rattle.vd_meaning.specs.Names.{number_or}
 use Rattle.vd_meaning.specs.Tables.{role_of}
 use Rattle.vd_resolved.specs.declared.node.Resolved.{Resolved}
-use Rattle.vd_rule_groups.proofs.FirstLemmas.{all_others}
-use Rattle.vd_rule_groups.specs.Groups.{firsts_of}
-use Rattle.vd_rule_groups.specs.declared.firsts.Firsts.{Firsts}
+use Rattle.vd_value_rules.proofs.FirstLemmas.{all_others}
+use Rattle.vd_value_rules.specs.Groups.{firsts_of}
+use Rattle.vd_value_rules.specs.declared.firsts.Firsts.{Firsts}
 use Rattle.vd_trees.specs.declared.revision.Revision.{Revision}
 use Rattle.vd_value_rules.specs.Bounds.{argument_of, broken_bounds, has_no_bounds, indefinite, indefinite_arguments, is_operator_called, operands_of, unconstrained}
 use Rattle.vd_value_rules.specs.Designs.{Design, is_2019}

@@ -20,9 +20,9 @@ use vd_forest::{Cursor, Opened};
 use vd_forms::Form;
 use vd_given_choices::{Choice, choices_given};
 use vd_known_designs::KnownDesign;
+use vd_known_lengths::lengths::sum;
+use vd_known_lengths::operands::is_positional;
 use vd_resolved::Resolved;
-use vd_shapings::lengths::sum;
-use vd_shapings::operands::is_positional;
 
 /// Whether an element is `others`.
 fn has_others(elements: &Cursor<'_, Resolved>) -> bool

@@ -3,9 +3,9 @@
 ghost use Rattle.std.specs.Prelude.{◌≡◌, ◌∷◌, ◌&&◌, [], if◌then◌else◌, IfOk, List, OnOk};
 ghost use Rattle.vd_known_designs.specs.Designs.{IsReady, Knows};
 ghost use Rattle.vd_known_indications.specs.Places.{Finds};
-ghost use Rattle.vd_least.specs.Least.{least_of};
+ghost use Rattle.vd_walks.specs.Least.{least_of};
 ghost use Rattle.vd_port_modes.specs.Source.{design_in};
-ghost use Rattle.vd_rule_groups.specs.Groups.{bounds};
+ghost use Rattle.vd_value_rules.specs.Groups.{bounds};
 ghost use Rattle.vd_value_rules.specs.Bounds.{operands_of};
 ghost use Rattle.vd_value_rules.specs.Designs.{Design, is_2019};
 ghost use Rattle.vd_value_rules.specs.Knowledge.{Known};
@@ -18,11 +18,11 @@ use vd_bytes::Refused;
 use vd_forest::Opened;
 use vd_known_designs::KnownDesign;
 use vd_known_indications::Surroundings;
-use vd_least::lesser;
 use vd_port_modes::Interfaces;
 use vd_resolved::Resolved;
-use vd_rule_groups::Firsts;
 use vd_trees::Revision;
+use vd_value_rules::Firsts;
+use vd_walks::lesser;
 
 /// Whether lengths of operands are asked for.
 fn is_asked(revision: Revision, is_copied: bool) -> bool

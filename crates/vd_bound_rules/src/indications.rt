@@ -4,7 +4,7 @@ ghost use Rattle.std.specs.Prelude.{◌≡◌, ◌∷◌, IfOk, List, OnOk};
 ghost use Rattle.vd_bound_rules.specs.Sorts.{place_in, unconstrained_at};
 ghost use Rattle.vd_forest.specs.Forest.{no_place, place_of};
 ghost use Rattle.vd_known_designs.specs.Designs.{IsReady, Knows};
-ghost use Rattle.vd_least.specs.Least.{least_of};
+ghost use Rattle.vd_walks.specs.Least.{least_of};
 ghost use Rattle.vd_value_rules.specs.Bounds.{has_no_bounds as needs_bounds, unconstrained as unconstrained_in};
 ghost use Rattle.vd_value_rules.specs.Choices.{place_or as place_or_else};
 ghost use Rattle.vd_value_rules.specs.Designs.{Design};
@@ -18,7 +18,7 @@ use vd_forest::{Cursor, Opened};
 use vd_known_designs::KnownDesign;
 use vd_known_indications::indicated_twice;
 use vd_resolved::Resolved;
-use vd_rule_groups::refused_if;
+use vd_value_rules::refused_if;
 use vd_value_rules::subtypes::has_bounds;
 
 /// Whether the subtype indication with a number is of arrays of any bounds.

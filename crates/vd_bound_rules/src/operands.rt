@@ -3,10 +3,10 @@
 ghost use Rattle.std.specs.Prelude.{◌≡◌, ◌∷◌, IfOk, List};
 ghost use Rattle.vd_bound_rules.specs.Sorts.{called_as, operands_as};
 ghost use Rattle.vd_bound_rules.specs.declared.sorts.Operands.TheVariants.{InBrackets};
-ghost use Rattle.vd_facets.specs.Roles.{read_role};
+ghost use Rattle.vd_operations.specs.Roles.{read_role};
 ghost use Rattle.vd_forest.specs.Forest.{more, nothing};
 ghost use Rattle.vd_known_designs.specs.Designs.{IsReady, Knows};
-ghost use Rattle.vd_least.specs.Least.{least_of};
+ghost use Rattle.vd_walks.specs.Least.{least_of};
 ghost use Rattle.vd_meaning.specs.Names.{number_or as number_of};
 ghost use Rattle.vd_meaning.specs.Tables.{is_brought as brought, role_of as role_in, table};
 ghost use Rattle.vd_trees.specs.declared.revision.Revision.{Revision};
@@ -20,15 +20,14 @@ use crate::written::is_indefinite;
 use std::alloc::{AllocError, Global};
 use vd_bytes::Refused;
 use vd_declarations::{Class, DeclId, Declaration};
-use vd_facets::{Role, role_of};
 use vd_forest::{Cursor, Opened};
 use vd_forms::Form;
 use vd_known_designs::KnownDesign;
-use vd_least::lesser;
-use vd_operations::class_of;
 use vd_operations::tables::followed;
+use vd_operations::{Role, class_of, role_of};
 use vd_resolved::Resolved;
-use vd_rule_groups::refused_if;
+use vd_value_rules::refused_if;
+use vd_walks::lesser;
 
 /// The first tree as an operand.
 fn one_operand(

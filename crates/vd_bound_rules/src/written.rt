@@ -18,9 +18,9 @@ use vd_declarations::TypeId;
 use vd_forest::{Cursor, Opened};
 use vd_forms::Form;
 use vd_known_designs::KnownDesign;
+use vd_known_lengths::operands::is_one_element;
+use vd_known_lengths::shape_of;
 use vd_resolved::Resolved;
-use vd_shapings::operands::is_one_element;
-use vd_shapings::shape_of;
 use vd_value_rules::IndicatedForm;
 use vd_value_rules::array_facts::{array_bounds, static_length};
 

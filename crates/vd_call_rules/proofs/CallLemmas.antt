@@ -4,7 +4,7 @@ use Rattle.std.proofs.Common.{◌≡◌, ℕ, ◌+◌, ◌<◌, ◌==◌, Bool, 
 use Rattle.vd_bytes.specs.declared.places.Place.{Place}
 use Rattle.vd_bytes.specs.declared.answers.Refused.{Refused}
 use Rattle.vd_forest.specs.Forest.{Forest}
-use Rattle.vd_least.specs.Least.{lesser, least_of, refusals}
+use Rattle.vd_walks.specs.Least.{lesser, least_of, refusals}
 use Rattle.vd_resolved.specs.declared.node.Resolved.{Resolved}
 use Rattle.vd_structure_rules.specs.Functions.{is_among}
 use Rattle.vd_structure_rules.proofs.RuleLemmas.{one_more}

@@ -1,1 +1,4 @@
 pub mod CallLemmas
+pub mod ChainLemmas
+pub mod PairLemmas
+pub mod RowLemmas

@@ -6,9 +6,9 @@ use Rattle.vd_bytes.specs.declared.answers.Refused.{Refused}
 use Rattle.vd_forest.specs.Forest.{Forest, skipped}
 use Rattle.vd_forms.specs.declared.form.Form.{Form}
 use Rattle.vd_forms.specs.declared.form.Form.TheVariants as form
-use Rattle.vd_finding.specs.Finding.{Finder}
-use Rattle.vd_gathering.specs.Gathering.{all_found}
-use Rattle.vd_least.specs.Least.{least_of, refusals}
+use Rattle.vd_walks.specs.Finding.{Finder}
+use Rattle.vd_walks.specs.Gathering.{all_found}
+use Rattle.vd_walks.specs.Least.{least_of, refusals}
 use Rattle.vd_resolved.specs.declared.node.Resolved.{Resolved}
 use Rattle.vd_structure_rules.specs.Loops.{number_at}
 use Rattle.vd_structure_rules.specs.Functions.{or_designator, is_among}

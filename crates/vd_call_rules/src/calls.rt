@@ -1,7 +1,7 @@
 //! Calls before the end of the called body.
 
 ghost use Rattle.std.specs.Prelude.{◌≡◌, ◌∷◌, ℕ, List, None, IfOk, is_some, slice_index_or};
-ghost use Rattle.vd_least.specs.Least.{lesser as lesser_refusal, least_of, refusals};
+ghost use Rattle.vd_walks.specs.Least.{lesser as lesser_refusal, least_of, refusals};
 ghost use Rattle.vd_call_rules.specs.declared.events.Event as events;
 ghost use Rattle.vd_call_rules.specs.Calls.{refused_until as is_refused_until, early_calls as all_early_calls, nothing_ended, first_refused};
 
@@ -11,9 +11,9 @@ use std::alloc::{AllocError, Global};
 use vd_bytes::{Place, Refused};
 use vd_declarations::DeclId;
 use vd_forest::Cursor;
-use vd_least::lesser;
 use vd_resolved::Resolved;
 use vd_structure_rules::tables::{bodies_by_number, entry, put};
+use vd_walks::lesser;
 
 /// The refusal of a call of a function whose body ends with a function or package.
 fn refused_until(end: Option<DeclId>, ended: &[Option<DeclId>], place: Place) -> Option<Refused>

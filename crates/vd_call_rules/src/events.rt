@@ -1,7 +1,7 @@
 //! Events of a text: calls, and ends of bodies.
 
 ghost use Rattle.std.specs.Prelude.{◌≡◌, None, IfOk, is_some, slice_index_or};
-ghost use Rattle.vd_finding.specs.Finding.{Finder};
+ghost use Rattle.vd_walks.specs.Finding.{Finder};
 ghost use Rattle.vd_call_rules.specs.Calls.{ended as event_of_end, ended_without_body as event_of_package, ended_instance as event_of_instance, place_of_call as call_stands, called as event_of_call, event_at as event_of_node, event_finder, events as all_events};
 
 use crate::functions::outside;
@@ -9,14 +9,13 @@ use crate::inside::{Inside, inside_of};
 use std::alloc::{AllocError, Global};
 use vd_bytes::Place;
 use vd_declarations::{DeclId, TypeId};
-use vd_finding::Finding;
 use vd_forest::{Cursor, Opened};
 use vd_forms::Form;
-use vd_gathering::find_all;
 use vd_resolved::Resolved;
 use vd_structure_rules::functions::or_designator;
 use vd_structure_rules::loops::number_at;
 use vd_structure_rules::tables::entry;
+use vd_walks::{Finding, find_all};
 
 /// What happens at a place of a text.
 #[derive(Clone, Copy)]

@@ -1,20 +1,19 @@
 //! Functions that are written, and packages that have bodies.
 
 ghost use Rattle.std.specs.Prelude.{◌≡◌, ℕ, None, IfOk, slice_index_or};
-ghost use Rattle.vd_finding.specs.Finding.{Finder};
+ghost use Rattle.vd_walks.specs.Finding.{Finder};
 ghost use Rattle.vd_call_rules.specs.Calls.{outside as outside_of_all, until as until_end, written_until as written_with, written_at as written_by, written_finder, written as all_written, end_of, package_body_at as package_body_by, package_body_finder, package_bodies as all_package_bodies};
 
 use crate::inside::{Inside, inside_of};
 use std::alloc::{AllocError, Global};
 use vd_declarations::DeclId;
-use vd_finding::Finding;
 use vd_forest::{Cursor, Opened};
 use vd_forms::Form;
-use vd_gathering::find_all;
 use vd_resolved::Resolved;
 use vd_structure_rules::functions::or_designator;
 use vd_structure_rules::loops::number_at;
 use vd_structure_rules::tables::put;
+use vd_walks::{Finding, find_all};
 
 /// A function, and the function or package with which its body ends.
 #[derive(Clone, Copy)]

@@ -10,7 +10,7 @@ use Rattle.vd_directives.specs.declared.selected.Line.{Line}
 use Rattle.vd_forest.specs.Forest.{Forest, tree_count}
 use Rattle.vd_forms.specs.declared.form.Form.{Form}
 use Rattle.vd_program.specs.Dues.{Due, console_alone, limit_number, limit_passed}
-use Rattle.vd_rules.specs.Phases.{first_broken}
+use Rattle.vd_accepting.specs.Phases.{first_broken}
 use Rattle.vd_trees.specs.declared.revision.Revision.TheVariants.{V2019}
 use Rattle.vd_checking.specs.Checks.{accepted, accepted_line, console_of, due_of, judgement, MeetsRules, SaysCheck, warnings_from}
 

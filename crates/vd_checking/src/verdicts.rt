@@ -2,7 +2,7 @@
 
 ghost use Rattle.std.specs.Prelude.{◌≡◌, ◌++◌, IfOk};
 ghost use Rattle.vd_checking.specs.Checks.{accepted, accepted_line, judgement, refusal_in, warnings_from};
-ghost use Rattle.vd_rules.specs.Phases.{first_broken};
+ghost use Rattle.vd_accepting.specs.Phases.{first_broken};
 ghost use Rattle.vd_trees.specs.declared.revision.Revision.TheVariants.{V2019};
 ghost use Rattle.vd_words.specs.Words.{texts_of};
 

@@ -3,8 +3,8 @@ use Rattle.std.proofs.Common.{◌≡◌, ◌∷◌, ◌++◌, ◌<◌, ◌+◌, 
 use Rattle.std.proofs.lemmas.List.{length-map, map-append, take_more}
 use Rattle.std.proofs.lemmas.List.Elements.{All-cons, All-nil}
 use Rattle.std.specs.List.{All, AllByRecursion}
-use Rattle.vd_choice_covering.specs.Covering.{middle}
-use Rattle.vd_choice_covering.specs.Texts.{AreCounted, IsCounted}
+use Rattle.vd_given_choices.specs.Covering.{middle}
+use Rattle.vd_given_choices.specs.Texts.{AreCounted, IsCounted}
 use Rattle.vd_choice_rules.specs.Texts.{leaves_in, text_in, text_of}
 use Rattle.vd_choices.specs.Texts.{texts_of}
 use Rattle.vd_choices.specs.declared.texts.Text.{Text}

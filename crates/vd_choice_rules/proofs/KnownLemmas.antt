@@ -4,8 +4,8 @@ use Rattle.std.specs.List.{list_all}
 use Rattle.std.specs.Option.{option_map}
 use Rattle.std.specs.Prelude.{Err, Ok, is_some}
 use Rattle.vd_bytes.specs.declared.answers.Refused.{Refused}
-use Rattle.vd_choice_statements.specs.Statements.{IsSelecting, comparison_of}
-use Rattle.vd_choice_statements.specs.declared.statements.Selecting.{Selecting}
+use Rattle.vd_choice_rules.specs.SelectingStatements.{IsSelecting, comparison_of}
+use Rattle.vd_choice_rules.specs.declared.selecting_statements.Selecting.{Selecting}
 use Rattle.vd_choice_rules.specs.Texts.{is_other_length, lacks_others, leaves_in, other_lengths_in, text_in, text_of, texts_missing, texts_refused, value_in}
 use Rattle.vd_composites.specs.Composites.{Value, leaves}
 use Rattle.vd_composites.specs.Ranges.{values_in}
@@ -17,9 +17,9 @@ use Rattle.vd_given_choices.proofs.RefusalLemmas.{known_early, same_all_known, s
 use Rattle.vd_given_choices.specs.Choices.{AreChoices, IsChoice}
 use Rattle.vd_given_choices.specs.Refusals.{known_where, repeated_known}
 use Rattle.vd_given_choices.specs.declared.choices.Choice.{Choice}
-use Rattle.vd_least.proofs.LeastLaws.{least_of_append}
-use Rattle.vd_least.specs.Least.{least_of, lesser}
-use Rattle.vd_static_entries.specs.Entries.{IsFound}
+use Rattle.vd_walks.proofs.LeastLaws.{least_of_append}
+use Rattle.vd_walks.specs.Least.{least_of, lesser}
+use Rattle.vd_static_values.specs.Entries.{IsFound}
 use Rattle.vd_value_rules.specs.Choices.{Given, are_texts_covered, array_choices, early, early_text, has_other_length, left_out, other_lengths, positions_in, repeated, same_text, taken_by_elements, text_of_length, texts_leave_out, those_got}
 use Rattle.vd_value_rules.specs.Choices as rules
 use Rattle.vd_value_rules.specs.Judging.{refused_if}

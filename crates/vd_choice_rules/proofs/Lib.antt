@@ -1,3 +1,7 @@
+mod AlternativeLemmas
+mod SelectorLemmas
+mod SelectingLemmas
+mod ScalarLemmas
 mod RuleLemmas
 mod StatementLemmas
 mod CountLemmas

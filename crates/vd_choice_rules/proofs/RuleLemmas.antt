@@ -6,10 +6,10 @@ use Rattle.vd_choice_rules.proofs.TextLemmas.{array_of_rules, matching_of_rules}
 use Rattle.vd_environments.specs.Environments.{Env}
 use Rattle.vd_forest.specs.Forest.{Forest}
 use Rattle.vd_given_choices.proofs.RuleLemmas.{AreOfRules, both_of_rules, firsts_of_rules, not_static_of_rules, one_of_rules, repeated_of_rules}
-use Rattle.vd_least.specs.Least.{least_of}
+use Rattle.vd_walks.specs.Least.{least_of}
 use Rattle.vd_meaning.specs.Facets.{ByEquality, ByMatching, Comparison}
 use Rattle.vd_resolved.specs.declared.node.Resolved.{Resolved}
-use Rattle.vd_rule_groups.specs.Groups.{firsts_of}
+use Rattle.vd_value_rules.specs.Groups.{firsts_of}
 use Rattle.vd_value_rules.specs.Choices.{Selecting, array_choices, broken_by_selecting, broken_choices, choices_broken, early_bounds, given_twice, is_array, left_out, matching, not_static, repeated, scalar_choices, scalars_leave_out, selecting_of, share}
 use Rattle.vd_value_rules.specs.Designs.{Design}
 use Rattle.vd_value_rules.specs.Judging.{refused_if}

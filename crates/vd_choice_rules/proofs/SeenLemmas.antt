@@ -16,8 +16,8 @@ use Rattle.vd_given_choices.proofs.ChoiceLemmas.{none_behind}
 use Rattle.vd_given_choices.proofs.RefusalLemmas.{more_refused}
 use Rattle.vd_given_choices.specs.Refusals.{listed, those_known}
 use Rattle.vd_given_choices.specs.declared.choices.Choice.{Choice}
-use Rattle.vd_least.proofs.OrderLaws.{lesser_right}
-use Rattle.vd_least.specs.Least.{least_of, lesser}
+use Rattle.vd_walks.proofs.OrderLaws.{lesser_right}
+use Rattle.vd_walks.specs.Least.{least_of, lesser}
 use Rattle.vd_value_rules.specs.Choices.{same_text}
 use Rattle.vd_value_rules.specs.Judging.{refused_if}
 

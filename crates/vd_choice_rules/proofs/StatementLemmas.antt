@@ -4,14 +4,14 @@ use Rattle.std.proofs.lemmas.Result.{IfOk-weaker}
 use Rattle.std.specs.Prelude.{IfOk, Result}
 use Rattle.vd_bytes.specs.declared.answers.Refused.{Refused}
 use Rattle.vd_choice_rules.specs.Statements.{broken_by_selector, matched_by}
-use Rattle.vd_choice_statements.specs.Statements.{IsSelecting, IsSelectingIn, comparison_of}
-use Rattle.vd_choice_statements.specs.declared.statements.Selecting.{Selecting}
+use Rattle.vd_choice_rules.specs.SelectingStatements.{IsSelecting, IsSelectingIn, comparison_of}
+use Rattle.vd_choice_rules.specs.declared.selecting_statements.Selecting.{Selecting}
 use Rattle.vd_choice_rules.proofs.TextLemmas.{texts_by_equality, texts_by_matching}
 use Rattle.vd_choice_rules.specs.Texts.{texts_refused}
 use Rattle.vd_environments.specs.Environments.{Env}
 use Rattle.vd_given_choices.proofs.ChoiceLemmas.{none_behind}
-use Rattle.vd_least.proofs.LeastLaws.{least_of_append}
-use Rattle.vd_least.specs.Least.{least_of, lesser}
+use Rattle.vd_walks.proofs.LeastLaws.{least_of_append}
+use Rattle.vd_walks.specs.Least.{least_of, lesser}
 use Rattle.vd_meaning.specs.Facets.{ByEquality, ByMatching, Comparison}
 use Rattle.vd_value_rules.specs.Choices.{Given, array_choices, broken_by_selecting, choices_broken, early_bounds, given_twice, is_array, left_out, matching, not_static, repeated, scalar_choices, scalars_leave_out, share}
 use Rattle.vd_value_rules.specs.Choices as rules

@@ -1,2 +1,3 @@
+pub mod SelectingStatements
 pub mod Statements
 pub mod Texts

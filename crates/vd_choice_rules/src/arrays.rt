@@ -1,20 +1,20 @@
 //! Choices of selectors of array types.
 
 ghost use Rattle.std.specs.Prelude.{◌≡◌, ◌∷◌, IfOk, List, Some};
-ghost use Rattle.vd_choice_statements.specs.Statements.{IsSelecting};
+ghost use Rattle.vd_choice_rules.specs.SelectingStatements.{IsSelecting};
 ghost use Rattle.vd_known_designs.specs.Designs.{IsReady, Knows};
-ghost use Rattle.vd_least.specs.Least.{least_of};
+ghost use Rattle.vd_walks.specs.Least.{least_of};
 ghost use Rattle.vd_value_rules.specs.Choices.{Selecting as selectings, array_choices};
 ghost use Rattle.vd_value_rules.specs.Designs.{Design};
 ghost use Rattle.vd_value_rules.specs.Knowledge.{Known};
 
+use crate::Selecting;
 use crate::matching::refused_matching;
 use crate::texts::{refused_lengthless, refused_texts};
 use std::alloc::{AllocError, Global};
 use vd_bytes::Refused;
-use vd_choice_statements::Selecting;
 use vd_known_designs::KnownDesign;
-use vd_least::lesser;
+use vd_walks::lesser;
 
 /// The first refusal of choices of a selector that has so many elements.
 fn refused_counted(

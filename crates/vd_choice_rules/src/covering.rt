@@ -2,17 +2,16 @@
 
 ghost use Rattle.std.specs.List.{list_all};
 ghost use Rattle.std.specs.Prelude.{◌≡◌, ◌++◌, IfOk, List, OnOk, is_some, ℤ};
-ghost use Rattle.vd_choice_covering.specs.Texts.{AreCounted, IsCounted};
+ghost use Rattle.vd_given_choices.specs.Texts.{AreCounted, IsCounted};
 ghost use Rattle.vd_choice_rules.specs.Texts.{items_where, text_in, texts_missing, value_in};
 ghost use Rattle.vd_choices.specs.Texts.{texts_of};
 ghost use Rattle.vd_given_choices.specs.Refusals.{listed, those_known};
 
 use crate::positions::text_of;
 use std::alloc::{AllocError, Global};
-use vd_choice_covering::{are_texts_covered, counted};
 use vd_choices::Text;
 use vd_composites::Bounds;
-use vd_given_choices::Choice;
+use vd_given_choices::{Choice, are_texts_covered, counted};
 
 /// Whether the value of a choice is known.
 fn is_known(choice: &Choice) -> bool

@@ -2,14 +2,14 @@
 
 ghost use Rattle.std.specs.Prelude.{◌≡◌, IfOk};
 ghost use Rattle.vd_choice_rules.specs.Texts.{other_lengths_in};
-ghost use Rattle.vd_least.specs.Least.{least_of};
+ghost use Rattle.vd_walks.specs.Least.{least_of};
 
 use crate::positions::has_other_length;
 use std::alloc::{AllocError, Global};
 use vd_bytes::Refused;
 use vd_given_choices::Choice;
-use vd_least::lesser;
-use vd_rule_groups::refused_if;
+use vd_value_rules::refused_if;
+use vd_walks::lesser;
 
 /// The first choice that has another length.
 pub(crate) fn first_of_other_length(

@@ -2,18 +2,18 @@
 
 ghost use Rattle.std.specs.Prelude.{◌≡◌, ◌∷◌, IfOk, List};
 ghost use Rattle.vd_choice_rules.specs.Statements.{matched_by};
-ghost use Rattle.vd_choice_statements.specs.Statements.{IsSelecting};
+ghost use Rattle.vd_choice_rules.specs.SelectingStatements.{IsSelecting};
 ghost use Rattle.vd_known_designs.specs.Designs.{IsReady, Knows};
-ghost use Rattle.vd_least.specs.Least.{least_of};
+ghost use Rattle.vd_walks.specs.Least.{least_of};
 ghost use Rattle.vd_value_rules.specs.Choices.{Selecting as selectings};
 ghost use Rattle.vd_value_rules.specs.Designs.{Design};
 ghost use Rattle.vd_value_rules.specs.Knowledge.{Known};
 
+use crate::Selecting;
 use std::alloc::{AllocError, Global};
 use vd_bytes::Refused;
-use vd_choice_statements::Selecting;
+use vd_given_choices::first_matching;
 use vd_known_designs::KnownDesign;
-use vd_matching_choices::first_matching;
 
 /// The first choice that matches an earlier one, where a statement compares them by `?=`.
 pub(crate) fn refused_matching(

@@ -3,7 +3,7 @@
 ghost use Rattle.std.specs.Prelude.{◌≡◌, ◌++◌, [], IfOk, List, OnOk, ℤ};
 ghost use Rattle.vd_choice_rules.specs.Texts.{HasTexts, items_where, text_in};
 ghost use Rattle.vd_given_choices.specs.Refusals.{listed, repeated_known, repeats_known};
-ghost use Rattle.vd_least.specs.Least.{least_of};
+ghost use Rattle.vd_walks.specs.Least.{least_of};
 ghost use Rattle.vd_value_rules.specs.Choices.{same_text};
 
 use crate::positions::text_of;
@@ -11,8 +11,8 @@ use indexmap::IndexSet;
 use std::alloc::{AllocError, Global};
 use vd_bytes::Refused;
 use vd_given_choices::Choice;
-use vd_least::lesser;
-use vd_rule_groups::refused_if;
+use vd_value_rules::refused_if;
+use vd_walks::lesser;
 
 /// Puts a text, where there is one, among those that are seen, and says whether it was there already.
 fn repeats(seen: &mut IndexSet<Vec<i64>>, text: Option<Vec<i64>>) -> Result<bool, AllocError>

@@ -1,24 +1,23 @@
 //! Choices of scalar selectors.
 
 ghost use Rattle.std.specs.Prelude.{◌≡◌, ◌∷◌, IfOk, List};
-ghost use Rattle.vd_choice_statements.specs.Statements.{IsSelecting};
+ghost use Rattle.vd_choice_rules.specs.SelectingStatements.{IsSelecting};
 ghost use Rattle.vd_known_designs.specs.Designs.{IsReady, Knows};
-ghost use Rattle.vd_least.specs.Least.{least_of};
+ghost use Rattle.vd_walks.specs.Least.{least_of};
 ghost use Rattle.vd_meaning.specs.Facets.{ByMatching};
 ghost use Rattle.vd_value_rules.specs.Choices.{Selecting as selectings, scalar_choices};
 ghost use Rattle.vd_value_rules.specs.Designs.{Design};
 ghost use Rattle.vd_value_rules.specs.Knowledge.{Known};
 
+use crate::Selecting;
+use crate::selecting_scalars::refused_scalars;
 use std::alloc::{AllocError, Global};
 use vd_bytes::Refused;
-use vd_choice_statements::Selecting;
-use vd_choice_statements::scalars::refused_scalars;
-use vd_given_choices::first_repeated;
+use vd_given_choices::{first_matching, first_repeated};
 use vd_known_designs::KnownDesign;
-use vd_least::lesser;
-use vd_matching_choices::first_matching;
-use vd_rule_groups::refused_if;
+use vd_value_rules::refused_if;
 use vd_vectors::LogicType;
+use vd_walks::lesser;
 
 /// The first refusal of choices that are compared by the `?=` of a logical type. There must be `others`, whatever they give.
 fn refused_by_matching(

@@ -2,12 +2,12 @@
 
 ghost use Rattle.std.specs.Prelude.{◌≡◌, ◌∷◌, IfOk, List, OnOk};
 ghost use Rattle.vd_choice_rules.specs.Statements.{broken_by_selector};
-ghost use Rattle.vd_choice_statements.specs.Statements.{IsSelecting};
+ghost use Rattle.vd_choice_rules.specs.SelectingStatements.{IsSelecting};
 ghost use Rattle.vd_known_designs.specs.Designs.{IsReady, Knows};
 ghost use Rattle.vd_known_indications.specs.Places.{Finds};
-ghost use Rattle.vd_least.specs.Least.{least_of};
+ghost use Rattle.vd_walks.specs.Least.{least_of};
 ghost use Rattle.vd_port_modes.specs.Source.{design_in};
-ghost use Rattle.vd_rule_groups.specs.Groups.{choices as all_choices};
+ghost use Rattle.vd_value_rules.specs.Groups.{choices as all_choices};
 ghost use Rattle.vd_value_rules.specs.Choices.{Selecting as selectings, broken_choices, choices_broken};
 ghost use Rattle.vd_value_rules.specs.Designs.{Design};
 ghost use Rattle.vd_value_rules.specs.Knowledge.{Known};
@@ -15,18 +15,18 @@ ghost use Rattle.vd_value_rules.specs.Standings.{State};
 
 use crate::arrays::refused_of_arrays;
 use crate::scalars::refused_of_scalars;
+use crate::{Selecting, selecting_of};
 use std::alloc::{AllocError, Global};
 use vd_bytes::Refused;
-use vd_choice_statements::{Selecting, selecting_of};
 use vd_forest::Opened;
 use vd_given_choices::first_not_static;
 use vd_known_designs::KnownDesign;
 use vd_known_indications::Surroundings;
-use vd_least::lesser;
 use vd_port_modes::Interfaces;
 use vd_resolved::Resolved;
-use vd_rule_groups::Firsts;
 use vd_trees::Revision;
+use vd_value_rules::Firsts;
+use vd_walks::lesser;
 
 /// The first refusal of choices, but that they are locally static.
 fn refused_by_selector(

@@ -1,22 +1,22 @@
 //! What is refused of choices of selectors of array types.
 
 ghost use Rattle.std.specs.Prelude.{◌≡◌, IfOk, None};
-ghost use Rattle.vd_choice_statements.specs.Statements.{IsSelecting};
+ghost use Rattle.vd_choice_rules.specs.SelectingStatements.{IsSelecting};
 ghost use Rattle.vd_choice_rules.specs.Texts.{lacks_others, texts_refused};
 ghost use Rattle.vd_environments.specs.Environments.{Env};
-ghost use Rattle.vd_least.specs.Least.{least_of};
+ghost use Rattle.vd_walks.specs.Least.{least_of};
 ghost use Rattle.vd_value_rules.specs.Choices.{Selecting as selectings, array_choices, left_out};
 
+use crate::Selecting;
 use crate::covering::leave_out;
 use crate::lengths::first_of_other_length;
 use crate::repeats::first_repeated_text;
+use crate::selecting_scalars::is_lacking;
 use std::alloc::{AllocError, Global};
 use vd_bytes::Refused;
-use vd_choice_statements::Selecting;
-use vd_choice_statements::scalars::is_lacking;
-use vd_least::lesser;
-use vd_rule_groups::refused_if;
+use vd_value_rules::refused_if;
 use vd_vectors::LogicType;
+use vd_walks::lesser;
 
 /// Whether `others` is missing: where a selector is compared by `?=` it must always be there, and else only where values are left out.
 fn is_others_missing(matching: Option<LogicType>, is_left_out: bool, has_others: bool) -> bool

@@ -6,7 +6,7 @@ use Rattle.vd_declarations.specs.declared.declarations.Declaration.{Declaration}
 use Rattle.vd_forest.specs.Forest.{Forest}
 use Rattle.vd_resolved.specs.declared.node.Resolved.{Resolved}
 use Rattle.vd_resolved.specs.Trees.{ResolvedTree, side_by_side}
-use Rattle.vd_given.specs.Given.{given_scopes}
+use Rattle.vd_predefined.specs.Given.{given_scopes}
 use Rattle.vd_meaning.specs.Elaborations.{elaboration}
 use Rattle.vd_elaboration_facts.specs.Hierarchies.{text_of}
 

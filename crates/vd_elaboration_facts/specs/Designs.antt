@@ -8,7 +8,7 @@ use Rattle.vd_forms.specs.declared.form.Form.{Form}
 use Rattle.vd_forms.specs.declared.form.Form.TheVariants as form
 use Rattle.vd_resolved.specs.declared.node.Resolved.{Resolved}
 use Rattle.vd_resolved.specs.Trees.{ResolvedTree, side_by_side}
-use Rattle.vd_given.specs.declared.numbers.TheConstants.{BIT, INTEGER}
+use Rattle.vd_predefined.specs.declared.numbers.TheConstants.{BIT, INTEGER}
 use Rattle.vd_meaning.specs.Elaborations.{Elaboration, Elaborates, Fails, NoTop, elaboration, design_trace_text}
 use Rattle.vd_meaning_facts.specs.Trees.{own, object, node, plain, absent, leaf, operator, letter, number, name, upto, all_declarations}
 

@@ -7,8 +7,8 @@ use Rattle.vd_declarations.specs.declared.declarations.Declaration.{Declaration}
 use Rattle.vd_forms.specs.declared.form.Form.{Form}
 use Rattle.vd_forms.specs.declared.form.Form.TheVariants as form
 use Rattle.vd_resolved.specs.Trees.{ResolvedTree, side_by_side}
-use Rattle.vd_given.specs.Entries.{declared}
-use Rattle.vd_given.specs.declared.numbers.TheConstants.{BIT, BOOLEAN, INTEGER, STD_LOGIC, STD_ULOGIC}
+use Rattle.vd_predefined.specs.Entries.{declared}
+use Rattle.vd_predefined.specs.declared.numbers.TheConstants.{BIT, BOOLEAN, INTEGER, STD_LOGIC, STD_ULOGIC}
 use Rattle.vd_meaning.specs.Building.{Failing, Stopped, Limited}
 use Rattle.vd_meaning.specs.Elaborations.{Elaboration, Elaborates, Fails, NoTop, elaboration, design_trace_text}
 use Rattle.vd_meaning_facts.specs.Trees.{own, object, node, plain, absent, operator, letter, number, first, name, longer, upto, all_declarations}

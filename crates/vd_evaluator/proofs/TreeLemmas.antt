@@ -1,7 +1,7 @@
 -- What trees come to.
 use Rattle.std.proofs.Common.{◌≡◌, ℕ, List, [], ◌∷◌, false, map, refl, sym, ap, subst, ◌∙◌}
 use Rattle.std.specs.Prelude.{Option, None, Some, Result, Ok, Err, IfOk}
-use Rattle.vd_bottom_up.specs.Trees as trees
+use Rattle.vd_walks.specs.Trees as trees
 use Rattle.vd_bytes.specs.declared.places.Place.{Place}
 use Rattle.vd_forest.specs.Forest.{Forest, nothing, more}
 use Rattle.vd_resolved.specs.declared.node.Resolved.{Resolved}

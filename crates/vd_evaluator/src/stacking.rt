@@ -7,12 +7,12 @@ ghost use Rattle.vd_evaluator.specs.Senses.{AreTrees};
 use crate::nodes::sense;
 use crate::senses::Sense;
 use std::alloc::{AllocError, Global};
-use vd_bottom_up::{BottomUp, bottom_up};
 use vd_declarations::Declaration;
-use vd_forest::Cursor;
+use vd_forest::{Cursor, Opened};
 use vd_plain_values::Entry;
 use vd_resolved::Resolved;
 use vd_trees::Revision;
+use vd_walks::{FromLeaves, from_leaves};
 
 /// What nodes are evaluated over.
 #[derive(Clone, Copy)]
@@ -22,7 +22,7 @@ struct Evaluating<'d, 'e> {
     environment: &'d [Entry<'e>],
 }
 
-impl<'a, 'd, 'e> BottomUp<'a, Resolved, Sense<'a>> for Evaluating<'d, 'e> {
+impl<'a, 'd, 'e> FromLeaves<'a, Resolved, Sense<'a>> for Evaluating<'d, 'e> {
     ghost use Rattle.std.specs.Prelude.{⊤};
     ghost use Rattle.vd_evaluator.specs.Senses.{IsTree};
     ghost use Rattle.vd_meaning.specs.Tables.{table};
@@ -37,11 +37,10 @@ impl<'a, 'd, 'e> BottomUp<'a, Resolved, Sense<'a>> for Evaluating<'d, 'e> {
 
     ghost comes_to = { λ by. IsTree (table by.revision by.declarations.now) by.environment.now };
 
-    fn node(
+    fn tree(
         &mut self,
         alloc: Global,
-        form: Resolved,
-        text: &'a [u8],
+        tree: &Opened<'a, Resolved>,
         parts: &[Sense<'a>],
     ) -> Result<Sense<'a>, AllocError> {
         sense(
@@ -49,8 +48,8 @@ impl<'a, 'd, 'e> BottomUp<'a, Resolved, Sense<'a>> for Evaluating<'d, 'e> {
             self.revision,
             self.declarations,
             self.environment,
-            form,
-            text,
+            tree.form,
+            tree.text,
             parts,
         )
     }
@@ -71,5 +70,5 @@ pub(crate) fn senses<'a>(
         declarations,
         environment,
     };
-    bottom_up(alloc, from, &mut evaluating)
+    from_leaves(alloc, from, &mut evaluating)
 }

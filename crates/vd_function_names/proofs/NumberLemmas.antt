@@ -7,7 +7,7 @@ use Rattle.vd_forest.specs.Forest.{Forest, nothing, more}
 use Rattle.vd_function_names.specs.Counting.{counted, inside, own_number, number_finder}
 use Rattle.vd_function_names.specs.declared.counting.Counted.{Counted}
 use Rattle.vd_function_names.specs.declared.counting.Counting.{Counting}
-use Rattle.vd_gathering.specs.Gathering.{all_found, with_answer}
+use Rattle.vd_walks.specs.Gathering.{all_found, with_answer}
 use Rattle.vd_meaning.specs.Facets.{Meaning, flattened, nth}
 use Rattle.vd_meaning.specs.Kinds
 use Rattle.vd_meaning.specs.Meanings.{meaning_of, meanings, node_meaning}

@@ -7,13 +7,13 @@ use Rattle.vd_bytes.specs.declared.places.Place.{Place}
 use Rattle.vd_forest.specs.Forest.{Forest, more, nothing}
 use Rattle.vd_forms.specs.declared.form.Form.{Form}
 use Rattle.vd_function_names.specs.Functions.{among, is_function, names_walker}
-use Rattle.vd_least.proofs.OrderLaws.{lesser_brackets}
-use Rattle.vd_least.specs.Least.{Judge, least, least_of, lesser}
+use Rattle.vd_walks.proofs.OrderLaws.{lesser_brackets}
+use Rattle.vd_walks.specs.Least.{Judge, least, least_of, lesser}
 use Rattle.vd_resolved.specs.Trees.{ResolvedTree}
 use Rattle.vd_resolved.specs.declared.node.Resolved.{Resolved}
-use Rattle.vd_rule_groups.proofs.WalkLemmas.{firsts_of_rules_alone, least_alike}
-use Rattle.vd_rule_groups.specs.Groups.{firsts_by, judge_by, name_in_function, names_in_functions}
-use Rattle.vd_rule_groups.specs.declared.firsts.Firsts.{Firsts}
+use Rattle.vd_value_rules.proofs.WalkLemmas.{firsts_of_rules_alone, least_alike}
+use Rattle.vd_value_rules.specs.Groups.{firsts_by, judge_by, name_in_function, names_in_functions}
+use Rattle.vd_value_rules.specs.declared.firsts.Firsts.{Firsts}
 use Rattle.vd_trees.specs.declared.revision.Revision.{Revision}
 use Rattle.vd_value_rules.specs.Designs.{Design, design_of}
 use Rattle.vd_value_rules.specs.Names.{broken_in_function, is_foreign}
@@ -21,7 +21,7 @@ use Rattle.vd_value_rules.specs.Judging.{refused_if}
 use Rattle.vd_value_rules.specs.Rules.{is_of_names}
 use Rattle.vd_value_rules.specs.Reaching.{reached}
 use Rattle.vd_value_rules.specs.Standings.{State, beginning, locals_down}
-use Rattle.vd_walking.specs.Walking.{Entry, Inside, Walked, followed, through, walked}
+use Rattle.vd_walks.specs.Walking.{Entry, Inside, Walked, followed, through, walked}
 use Rattle.vd_forms.specs.declared.form.Form.TheVariants as form
 
 -- ---- of the state the variables alone count

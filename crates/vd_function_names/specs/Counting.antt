@@ -1,6 +1,6 @@
 -- Where the declarations stand that a list of identifiers declares.
 use Rattle.std.specs.Prelude.{ℕ, Bool, true, false, Option, None, if◌then◌else◌}
-use Rattle.vd_finding.specs.Finding.{Finder}
+use Rattle.vd_walks.specs.Finding.{Finder}
 use Rattle.vd_function_names.specs.declared.counting.Counted.{Counted}
 use Rattle.vd_function_names.specs.declared.counting.Counting.{Counting}
 use Rattle.vd_meaning.specs.Kinds

@@ -1,12 +1,12 @@
 -- Names in functions, in the order of the text: the variables of the nearest function go down to what stands in it.
 use Rattle.std.specs.Prelude.{Bool, List, None, Option, Some, false, if◌then◌else◌, true, ℕ}
 use Rattle.vd_forms.specs.declared.form.Form.{Form}
-use Rattle.vd_least.specs.Least.{least_of, lesser}
+use Rattle.vd_walks.specs.Least.{least_of, lesser}
 use Rattle.vd_resolved.specs.declared.node.Resolved.{Resolved}
-use Rattle.vd_rule_groups.specs.Groups.{name_in_function}
+use Rattle.vd_value_rules.specs.Groups.{name_in_function}
 use Rattle.vd_value_rules.specs.Designs.{Design}
 use Rattle.vd_value_rules.specs.Standings.{State, beginning, locals_down}
-use Rattle.vd_walking.specs.Walking.{Inside, Walker}
+use Rattle.vd_walks.specs.Walking.{Inside, Walker}
 use Rattle.vd_forms.specs.declared.form.Form.TheVariants as form
 
 -- inside of these there are other variables

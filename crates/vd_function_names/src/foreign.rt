@@ -2,11 +2,11 @@
 
 ghost use Rattle.std.specs.Prelude.{◌≡◌, ◌&&◌, ◌||◌, not};
 ghost use Rattle.vd_meaning.specs.Elaborations.{Units};
-ghost use Rattle.vd_facets.specs.Roles.{read_role};
+ghost use Rattle.vd_operations.specs.Roles.{read_role};
 ghost use Rattle.vd_function_names.specs.Functions.{among};
-ghost use Rattle.vd_least.specs.Least.{least_of};
+ghost use Rattle.vd_walks.specs.Least.{least_of};
 ghost use Rattle.vd_meaning.specs.Tables.{role_of as role_in, table};
-ghost use Rattle.vd_rule_groups.specs.Groups.{name_in_function as refused_in_function};
+ghost use Rattle.vd_value_rules.specs.Groups.{name_in_function as refused_in_function};
 ghost use Rattle.vd_trees.specs.declared.revision.Revision.{Revision};
 ghost use Rattle.vd_value_rules.specs.Names.{broken_in_function as broken_inside, is_outer_variable};
 ghost use Rattle.vd_value_rules.specs.Reaching.{is_signal_role, is_variable_role, reached};
@@ -15,11 +15,11 @@ use crate::locals::Locals;
 use crate::reaching::declaration_reached;
 use vd_bytes::{Place, Refused};
 use vd_declarations::{DeclId, Declaration};
-use vd_facets::{Role, role_of};
 use vd_forest::{Cursor, Opened};
 use vd_forms::Form;
+use vd_operations::{Role, role_of};
 use vd_resolved::Resolved;
-use vd_rule_groups::refused_if;
+use vd_value_rules::refused_if;
 
 /// Whether a function may not name what has a role, where it declares it itself or not.
 fn is_foreign_role(role: Role, is_local: bool) -> bool

@@ -1,7 +1,7 @@
 //! The declarations that a list of identifiers declares.
 
 ghost use Rattle.std.specs.Prelude.{◌≡◌, IfOk};
-ghost use Rattle.vd_finding.specs.Finding.{Finder};
+ghost use Rattle.vd_walks.specs.Finding.{Finder};
 ghost use Rattle.vd_function_names.specs.Counting.{own_number as number_of_itself, number_finder};
 ghost use Rattle.vd_meaning.specs.Facets.{nth};
 ghost use Rattle.vd_meaning.specs.Meanings.{meanings};
@@ -10,10 +10,9 @@ ghost use Rattle.vd_meaning.specs.Tables.{Table};
 use crate::counting::{Counted, Counting, behind, counting_of, counts, inside};
 use std::alloc::{AllocError, Global};
 use vd_declarations::DeclId;
-use vd_finding::Finding;
 use vd_forest::{Cursor, Opened};
-use vd_gathering::find_all;
 use vd_resolved::Resolved;
+use vd_walks::{Finding, find_all};
 
 /// The declaration that a node carries, where it counts.
 fn own_number(counting: Counting, number: Option<DeclId>) -> Option<DeclId>

@@ -2,16 +2,16 @@
 
 ghost use Rattle.std.specs.Prelude.{◌≡◌};
 ghost use Rattle.vd_meaning.specs.Elaborations.{Units};
-ghost use Rattle.vd_facets.specs.Roles.{read_role};
+ghost use Rattle.vd_operations.specs.Roles.{read_role};
 ghost use Rattle.vd_function_names.specs.Steps.{step_of as step_by};
 ghost use Rattle.vd_meaning.specs.Tables.{role_of as role_in, table};
 ghost use Rattle.vd_trees.specs.declared.revision.Revision.{Revision};
 ghost use Rattle.vd_value_rules.specs.Reaching.{reached};
 
 use vd_declarations::{DeclId, Declaration};
-use vd_facets::{Role, role_of};
 use vd_forest::{Cursor, Opened};
 use vd_forms::Form;
+use vd_operations::{Role, role_of};
 use vd_resolved::Resolved;
 
 /// What a piece does to what is named in front of it.

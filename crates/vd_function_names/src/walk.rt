@@ -2,7 +2,7 @@
 
 ghost use Rattle.std.specs.Prelude.{◌≡◌, IfOk, List, Option, Some, true, ℕ};
 ghost use Rattle.vd_function_names.specs.Functions.{is_function as opens_function, names_walker};
-ghost use Rattle.vd_rule_groups.specs.Groups.{firsts_by, names_in_functions};
+ghost use Rattle.vd_value_rules.specs.Groups.{firsts_by, names_in_functions};
 ghost use Rattle.vd_value_rules.specs.Designs.{Design, design_of};
 ghost use Rattle.vd_value_rules.specs.Standings.{variables_in as variables_of_items, locals_down};
 
@@ -11,11 +11,10 @@ use crate::locals::{Locals, variables_in};
 use std::alloc::{AllocError, Global};
 use vd_forest::{Opened, Store};
 use vd_forms::Form;
-use vd_least::lesser;
 use vd_resolved::{Resolved, Tree};
-use vd_rule_groups::Firsts;
 use vd_trees::Revision;
-use vd_walking::{Entry, Outcome, Walking, walk};
+use vd_value_rules::Firsts;
+use vd_walks::{Entry, Outcome, Walking, lesser, walk};
 
 /// Whether other variables are declared inside nodes of the form.
 fn is_function(form: Form) -> bool

@@ -13,11 +13,11 @@ use Rattle.vd_meaning.specs.Brackets.{choice_bounds}
 use Rattle.vd_meaning.specs.Facets.{Meaning, value_of}
 use Rattle.vd_meaning.specs.Meanings.{meanings}
 use Rattle.vd_resolved.specs.declared.node.Resolved.{Resolved}
-use Rattle.vd_static_entries.specs.Entries.{IsFound}
-use Rattle.vd_static_entries.specs.Nodes.{AreNodes, IsNode}
-use Rattle.vd_static_entries.specs.Senses.{IsSense}
-use Rattle.vd_static_entries.specs.declared.nodes.Node.{Node}
-use Rattle.vd_static_entries.specs.declared.senses.Sense.{Sense}
+use Rattle.vd_static_values.specs.Entries.{IsFound}
+use Rattle.vd_static_values.specs.Nodes.{AreNodes, IsNode}
+use Rattle.vd_static_values.specs.Senses.{IsSense}
+use Rattle.vd_static_values.specs.declared.nodes.Node.{Node}
+use Rattle.vd_static_values.specs.declared.senses.Sense.{Sense}
 use Rattle.vd_value_rules.specs.Choices.{choice_given, choices_given, first_meaning, place_or, Given}
 use Rattle.vd_value_rules.specs.Designs.{Design}
 

@@ -8,10 +8,10 @@ use Rattle.vd_environments.specs.Got.{Got, is_got}
 use Rattle.vd_given_choices.specs.Choices.{AreChoices, IsChoice}
 use Rattle.vd_given_choices.specs.Refusals.{bounds_in, known_where, listed, not_static_in, repeated_known, repeats_known, those_known}
 use Rattle.vd_given_choices.specs.declared.choices.Choice.{Choice}
-use Rattle.vd_least.specs.Least.{least_of, lesser}
-use Rattle.vd_least.proofs.LeastLaws.{least_of_append}
-use Rattle.vd_least.proofs.OrderLaws.{lesser_brackets, lesser_right}
-use Rattle.vd_static_entries.specs.Entries.{IsFound}
+use Rattle.vd_walks.specs.Least.{least_of, lesser}
+use Rattle.vd_walks.proofs.LeastLaws.{least_of_append}
+use Rattle.vd_walks.proofs.OrderLaws.{lesser_brackets, lesser_right}
+use Rattle.vd_static_values.specs.Entries.{IsFound}
 use Rattle.vd_value_rules.specs.Choices.{Given, and_got, are_all_got, early, early_bounds, leave_out, not_static, repeated, repeats_in, those_got, with_got}
 use Rattle.vd_value_rules.specs.Judging.{refused_if}
 

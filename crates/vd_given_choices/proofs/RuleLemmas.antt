@@ -5,10 +5,10 @@ use Rattle.std.proofs.lemmas.List.Elements.{filter-append}
 use Rattle.vd_bytes.specs.declared.answers.Refused.{Refused}
 use Rattle.vd_bytes.specs.declared.places.Place.{Place}
 use Rattle.vd_environments.specs.Got.{Got}
-use Rattle.vd_least.specs.Least.{least_of}
-use Rattle.vd_rule_groups.proofs.FirstLemmas.{all_others}
-use Rattle.vd_rule_groups.specs.Groups.{firsts_of}
-use Rattle.vd_rule_groups.specs.declared.firsts.Firsts.{Firsts}
+use Rattle.vd_walks.specs.Least.{least_of}
+use Rattle.vd_value_rules.proofs.FirstLemmas.{all_others}
+use Rattle.vd_value_rules.specs.Groups.{firsts_of}
+use Rattle.vd_value_rules.specs.declared.firsts.Firsts.{Firsts}
 use Rattle.vd_value_rules.specs.Choices.{Given, not_static, repeated, repeats_in, with_got}
 use Rattle.vd_value_rules.specs.Judging.{refused_if}
 use Rattle.vd_value_rules.specs.Rules.{is_of_names}

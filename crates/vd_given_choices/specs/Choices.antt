@@ -5,7 +5,7 @@ use Rattle.vd_composites.specs.Stops.{◌>>=◌}
 use Rattle.vd_composites.specs.declared.ranges.Bounds.{Bounds}
 use Rattle.vd_environments.specs.Got.{Got}
 use Rattle.vd_given_choices.specs.declared.choices.Choice.{Choice}
-use Rattle.vd_static_entries.specs.Entries.{IsFound}
+use Rattle.vd_static_values.specs.Entries.{IsFound}
 use Rattle.vd_meaning.specs.Names.{position_in}
 use Rattle.vd_value_rules.specs.Choices.{Given}
 use Rattle.vd_values.specs.declared.scalar.Scalar.{Scalar}

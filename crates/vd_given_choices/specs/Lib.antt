@@ -1,2 +1,5 @@
+pub mod Covering
+pub mod Texts
 pub mod Choices
 pub mod Refusals
+pub mod Values

@@ -12,9 +12,9 @@ ghost use Rattle.vd_known_designs.specs.Designs.{IsReady, Knows};
 ghost use Rattle.vd_meaning.specs.Brackets.{choice_bounds};
 ghost use Rattle.vd_meaning.specs.Facets.{Meaning};
 ghost use Rattle.vd_meaning.specs.Meanings.{meanings};
-ghost use Rattle.vd_static_entries.specs.Entries.{IsFound};
-ghost use Rattle.vd_static_entries.specs.Names.{IsRanging};
-ghost use Rattle.vd_static_entries.specs.Nodes.{AreNodes, IsNode};
+ghost use Rattle.vd_static_values.specs.Entries.{IsFound};
+ghost use Rattle.vd_static_values.specs.Names.{IsRanging};
+ghost use Rattle.vd_static_values.specs.Nodes.{AreNodes, IsNode};
 ghost use Rattle.vd_value_rules.specs.Choices.{choice_given, choices_given as all_given, place_or};
 ghost use Rattle.vd_value_rules.specs.Designs.{Design};
 ghost use Rattle.vd_value_rules.specs.Knowledge.{Known};
@@ -28,8 +28,7 @@ use vd_forest::Cursor;
 use vd_known_designs::KnownDesign;
 use vd_known_indications::nodes;
 use vd_resolved::Resolved;
-use vd_static_entries::{Node, Ranging, Sense};
-use vd_static_values::position;
+use vd_static_values::{Node, Ranging, Sense, position};
 use vd_value_rules::StaticSort;
 
 /// A choice.

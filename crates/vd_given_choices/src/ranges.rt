@@ -5,9 +5,9 @@ ghost use Rattle.std.specs.Prelude.{◌≡◌, ◌++◌, IfOk, OnOk, is_some};
 ghost use Rattle.vd_given_choices.specs.Refusals.{bounds_in, listed, repeats_known, those_known};
 ghost use Rattle.vd_value_rules.specs.Choices.{share as have_common};
 
+use crate::any_shares;
 use crate::choices::Choice;
 use std::alloc::{AllocError, Global};
-use vd_choice_covering::any_shares;
 use vd_composites::Bounds;
 
 /// Whether one of some ranges has a value in common with another one, where that is known.

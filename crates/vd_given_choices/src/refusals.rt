@@ -2,15 +2,15 @@
 
 ghost use Rattle.std.specs.Prelude.{◌≡◌, IfOk, List, []};
 ghost use Rattle.vd_given_choices.specs.Choices.{AreChoices};
-ghost use Rattle.vd_least.specs.Least.{least_of};
+ghost use Rattle.vd_walks.specs.Least.{least_of};
 ghost use Rattle.vd_value_rules.specs.Choices.{Given, early_bounds, not_static, repeated, share};
 
 use crate::choices::Choice;
 use crate::ranges::{add_known, repeats};
 use std::alloc::{AllocError, Global};
 use vd_bytes::Refused;
-use vd_least::lesser;
-use vd_rule_groups::refused_if;
+use vd_value_rules::refused_if;
+use vd_walks::lesser;
 
 /// The first choice that isn't locally static.
 pub fn first_not_static(choices: &[Choice]) -> Option<Refused>

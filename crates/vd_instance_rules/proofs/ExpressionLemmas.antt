@@ -1,7 +1,7 @@
 -- Expressions that are static, and others.
 use Rattle.std.proofs.Common.{◌&&◌, ◌≡◌, ◌∙◌, Bool, [], ap, false, not, sym, true, ℕ}
 use Rattle.vd_environments.specs.Environments.{Env, is_static}
-use Rattle.vd_rule_groups.specs.Groups.{firsts_of}
+use Rattle.vd_value_rules.specs.Groups.{firsts_of}
 use Rattle.vd_value_rules.specs.Actuals.{PortAssociation, PortMap, expression_broken, has_composite_generic, is_refused_later}
 use Rattle.vd_value_rules.specs.Choices.{first_meaning}
 use Rattle.vd_value_rules.specs.Designs.{Design}

@@ -3,11 +3,11 @@ use Rattle.std.proofs.Common.{◌++◌, ◌<◌, ◌≡◌, ◌≤◌, ◌∙◌
 use Rattle.std.specs.Prelude.{Err, IfOk, Ok, Result}
 use Rattle.vd_bytes.specs.declared.answers.Refused.{Refused}
 use Rattle.vd_bytes.specs.declared.places.Place.{Place}
-use Rattle.vd_least.proofs.OrderLaws.{lesser_brackets, lesser_right}
-use Rattle.vd_least.specs.Least.{least_of}
-use Rattle.vd_rule_groups.proofs.FirstLemmas.{first_of_both}
-use Rattle.vd_rule_groups.specs.Groups.{firsts_of, is_of_rules, joined_firsts}
-use Rattle.vd_rule_groups.specs.declared.firsts.Firsts.{Firsts}
+use Rattle.vd_walks.proofs.OrderLaws.{lesser_brackets, lesser_right}
+use Rattle.vd_walks.specs.Least.{least_of}
+use Rattle.vd_value_rules.proofs.FirstLemmas.{first_of_both}
+use Rattle.vd_value_rules.specs.Groups.{firsts_of, is_of_rules, joined_firsts}
+use Rattle.vd_value_rules.specs.declared.firsts.Firsts.{Firsts}
 use Rattle.vd_value_rules.specs.Judging.{refused_if}
 use Rattle.vd_value_rules.specs.Rules.{is_of_names}
 

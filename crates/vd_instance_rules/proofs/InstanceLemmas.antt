@@ -9,8 +9,8 @@ use Rattle.vd_instance_rules.specs.Instances.{design_at, entity_at, port_map_at}
 use Rattle.vd_instance_rules.specs.declared.instance.Instance.{Instance}
 use Rattle.vd_port_modes.specs.Source.{Source, design_in}
 use Rattle.vd_resolved.specs.declared.node.Resolved.{Resolved}
-use Rattle.vd_rule_groups.specs.Groups.{firsts_of}
-use Rattle.vd_rule_groups.specs.declared.firsts.Firsts.{Firsts}
+use Rattle.vd_value_rules.specs.Groups.{firsts_of}
+use Rattle.vd_value_rules.specs.declared.firsts.Firsts.{Firsts}
 use Rattle.vd_value_rules.specs.Actuals.{PortMap, broken_instance, generic_actuals_of, instance_broken, port_map_broken}
 use Rattle.vd_value_rules.specs.Choices.{place_or}
 use Rattle.vd_value_rules.specs.Knowledge.{parts_at}

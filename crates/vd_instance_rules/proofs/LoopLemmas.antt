@@ -10,8 +10,8 @@ use Rattle.vd_port_associations.specs.Associations.{read_formal}
 use Rattle.vd_port_associations.specs.Numbers.{Holds}
 use Rattle.vd_port_associations.specs.declared.associations.PortAssociation.{PortAssociation as WrittenAssociation}
 use Rattle.vd_port_associations.specs.declared.numbers.NumberSet.{NumberSet}
-use Rattle.vd_rule_groups.specs.Groups.{firsts_of, joined_firsts}
-use Rattle.vd_rule_groups.specs.declared.firsts.Firsts.{Firsts}
+use Rattle.vd_value_rules.specs.Groups.{firsts_of, joined_firsts}
+use Rattle.vd_value_rules.specs.declared.firsts.Firsts.{Firsts}
 use Rattle.vd_value_rules.specs.Actuals.{PortAssociation, PortMap, all_associations_broken, association_broken, is_associated, port_of_formal}
 use Rattle.vd_value_rules.specs.Designs.{Design}
 use Rattle.vd_value_rules.specs.Judging.{refused_if}

@@ -6,7 +6,7 @@ use Rattle.vd_instance_rules.specs.Instances.{converted_output}
 use Rattle.vd_meaning.specs.Tables.{is_vector}
 use Rattle.vd_port_modes.specs.Readings.{read_fields, read_reached}
 use Rattle.vd_port_modes.specs.declared.reaching.Reached.{Reached as WrittenReached}
-use Rattle.vd_rule_groups.specs.Groups.{firsts_of}
+use Rattle.vd_value_rules.specs.Groups.{firsts_of}
 use Rattle.vd_value_rules.specs.Actuals.{is_part_of_view, takes_conversion}
 use Rattle.vd_value_rules.specs.Designs.{Design}
 use Rattle.vd_value_rules.specs.Judging.{refused_if}

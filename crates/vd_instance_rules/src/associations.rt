@@ -5,7 +5,7 @@ ghost use Rattle.vd_instance_rules.specs.Instances.{IsInstance, actual_for_port,
 ghost use Rattle.vd_known_designs.specs.Designs.{IsReady, Knows};
 ghost use Rattle.vd_port_associations.specs.Associations.{read_formal};
 ghost use Rattle.vd_port_associations.specs.Numbers.{Holds};
-ghost use Rattle.vd_rule_groups.specs.Groups.{firsts_of};
+ghost use Rattle.vd_value_rules.specs.Groups.{firsts_of};
 ghost use Rattle.vd_value_rules.specs.Actuals.{PortAssociation as Association, all_associations_broken, association_broken, is_associated as is_associated_in, is_read as is_read_at, port_of_formal};
 ghost use Rattle.vd_value_rules.specs.Designs.{Design};
 ghost use Rattle.vd_value_rules.specs.Judging.{refused_if};
@@ -24,7 +24,7 @@ use vd_port_associations::associations::PortAssociation;
 use vd_port_associations::formals::FormalSort;
 use vd_port_associations::numbers::NumberSet;
 use vd_resolved::Resolved;
-use vd_rule_groups::{Firsts, nothing_refused, together};
+use vd_value_rules::{Firsts, nothing_refused, together};
 
 /// Whether the first of these trees is `open` or has a type. What is refused elsewhere has none.
 fn is_read(actual: &Cursor<'_, Resolved>) -> bool

@@ -6,7 +6,7 @@ ghost use Rattle.vd_value_rules.specs.Indicated.{static_of};
 ghost use Rattle.vd_instance_rules.specs.Instances.{IsInstance, design_at, port_map_at, read_association};
 ghost use Rattle.vd_known_designs.specs.Designs.{IsReady, Knows};
 ghost use Rattle.vd_port_associations.specs.Numbers.{Holds};
-ghost use Rattle.vd_rule_groups.specs.Groups.{firsts_of};
+ghost use Rattle.vd_value_rules.specs.Groups.{firsts_of};
 ghost use Rattle.vd_value_rules.specs.Actuals.{expression_broken, has_composite_generic as names_composite_generic, is_refused_later, is_scalar as is_scalar_subtype, names_composite as is_composite_named};
 ghost use Rattle.vd_value_rules.specs.Choices.{first_meaning};
 ghost use Rattle.vd_value_rules.specs.Designs.{Design, is_listed};
@@ -22,10 +22,10 @@ use vd_known_indications::node;
 use vd_port_associations::associations::PortAssociation;
 use vd_port_associations::numbers::NumberSet;
 use vd_resolved::Resolved;
-use vd_rule_groups::{Firsts, nothing_refused};
-use vd_static_entries::Sense;
+use vd_static_values::Sense;
 use vd_trees::Revision;
 use vd_value_rules::subtypes::scalar;
+use vd_value_rules::{Firsts, nothing_refused};
 
 /// Whether a declaration has a scalar subtype.
 fn is_scalar(design: &KnownDesign<'_, '_>, number: DeclId) -> bool

@@ -6,21 +6,21 @@ ghost use Rattle.vd_meaning.specs.Tables.{is_vector as is_vector_type};
 ghost use Rattle.vd_port_associations.specs.Associations.{read_formal};
 ghost use Rattle.vd_port_lists.specs.Modes.{read_mode, read_plain};
 ghost use Rattle.vd_port_modes.specs.Source.{design_in};
-ghost use Rattle.vd_rule_groups.specs.Groups.{firsts_of};
+ghost use Rattle.vd_value_rules.specs.Groups.{firsts_of};
 ghost use Rattle.vd_value_rules.specs.Actuals.{formal_broken, is_of_vector_type as has_vector_type, is_open_actual as is_open_at, is_open_form as is_form_open, may_be_converted as is_convertible, port_of_formal};
 
 use crate::firsts::firsts_if;
 use vd_declarations::DeclId;
 use vd_forest::Cursor;
 use vd_forms::Form;
-use vd_given::numbers::{STD_LOGIC_VECTOR, STD_ULOGIC_VECTOR};
 use vd_operations::tables::mark_of;
 use vd_port_associations::associations::PortAssociation;
 use vd_port_associations::formals::FormalSort;
 use vd_port_lists::{Mode, PortMode};
 use vd_port_modes::Interfaces;
+use vd_predefined::numbers::{STD_LOGIC_VECTOR, STD_ULOGIC_VECTOR};
 use vd_resolved::Resolved;
-use vd_rule_groups::{Firsts, nothing_refused};
+use vd_value_rules::{Firsts, nothing_refused};
 
 /// Whether a mark is one of the vector types of IEEE 1164.
 pub(crate) fn is_vector(mark: DeclId) -> bool

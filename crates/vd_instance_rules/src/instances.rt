@@ -5,7 +5,7 @@ ghost use Rattle.vd_instance_rules.specs.Instances.{IsInstance, design_at, port_
 ghost use Rattle.vd_known_designs.specs.Designs.{IsReady, Knows};
 ghost use Rattle.vd_known_indications.specs.Places.{Finds};
 ghost use Rattle.vd_port_modes.specs.Source.{design_in};
-ghost use Rattle.vd_rule_groups.specs.Groups.{firsts_of, instances};
+ghost use Rattle.vd_value_rules.specs.Groups.{firsts_of, instances};
 ghost use Rattle.vd_value_rules.specs.Actuals.{port_map_broken};
 ghost use Rattle.vd_value_rules.specs.Designs.{Design};
 ghost use Rattle.vd_value_rules.specs.Knowledge.{Known};
@@ -24,7 +24,7 @@ use vd_port_associations::port_associations;
 use vd_port_facts::PortFacts;
 use vd_port_modes::Interfaces;
 use vd_resolved::Resolved;
-use vd_rule_groups::{Firsts, nothing_refused, together};
+use vd_value_rules::{Firsts, nothing_refused, together};
 
 /// What a port map with these elements breaks, for these ports.
 fn port_map_refusals(

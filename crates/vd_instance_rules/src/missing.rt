@@ -6,7 +6,7 @@ ghost use Rattle.vd_instance_rules.specs.Instances.{IsInstance, design_at, missi
 ghost use Rattle.vd_port_associations.specs.Associations.{read_formal};
 ghost use Rattle.vd_port_associations.specs.Numbers.{Holds};
 ghost use Rattle.vd_port_lists.specs.Modes.{read_mode};
-ghost use Rattle.vd_rule_groups.specs.Groups.{firsts_of};
+ghost use Rattle.vd_value_rules.specs.Groups.{firsts_of};
 ghost use Rattle.vd_value_rules.specs.Actuals.{PortAssociation as Association, are_in_order as in_order, are_known as are_known_in, is_association_form, is_missing as is_missing_in, needs_actual as needs_actual_by, port_of_formal};
 
 use crate::associations::{associate, is_associated};
@@ -22,7 +22,7 @@ use vd_port_associations::formals::FormalSort;
 use vd_port_associations::numbers::NumberSet;
 use vd_port_lists::{Mode, PortMode};
 use vd_resolved::Resolved;
-use vd_rule_groups::Firsts;
+use vd_value_rules::Firsts;
 
 /// The ports that are associated.
 fn ports_associated(

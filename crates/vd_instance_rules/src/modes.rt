@@ -9,7 +9,7 @@ ghost use Rattle.vd_port_associations.specs.Associations.{read_actual};
 ghost use Rattle.vd_port_lists.specs.Modes.{read_mode, read_plain};
 ghost use Rattle.vd_port_modes.specs.Readings.{read_oriented, read_reached};
 ghost use Rattle.vd_port_modes.specs.Source.{design_in};
-ghost use Rattle.vd_rule_groups.specs.Groups.{firsts_of};
+ghost use Rattle.vd_value_rules.specs.Groups.{firsts_of};
 ghost use Rattle.vd_value_rules.specs.Actuals.{actual_broken, input_broken, is_part_of_view as is_part_of_view_port, output_broken, takes_conversion as takes_conversions, view_broken};
 ghost use Rattle.vd_value_rules.specs.Designs.{Design};
 ghost use Rattle.vd_value_rules.specs.Knowledge.{Known};
@@ -28,8 +28,8 @@ use vd_port_associations::associations::PortAssociation;
 use vd_port_lists::{Mode, PortMode};
 use vd_port_modes::found::straight;
 use vd_port_modes::{Interfaces, Oriented, Reached, may_be_driven, names_view_port};
-use vd_rule_groups::{Firsts, nothing_refused, together};
 use vd_trees::Revision;
+use vd_value_rules::{Firsts, nothing_refused, together};
 
 /// What an actual of a port of mode `in` breaks.
 fn input_refusals(

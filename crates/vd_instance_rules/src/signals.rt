@@ -4,16 +4,16 @@ ghost use Rattle.std.specs.Prelude.{◌≡◌, IfOk};
 ghost use Rattle.vd_instance_rules.specs.Instances.{whole_or_disagrees};
 ghost use Rattle.vd_port_modes.specs.Readings.{read_oriented, read_reached};
 ghost use Rattle.vd_port_modes.specs.Source.{design_in};
-ghost use Rattle.vd_rule_groups.specs.Groups.{firsts_of};
+ghost use Rattle.vd_value_rules.specs.Groups.{firsts_of};
 ghost use Rattle.vd_value_rules.specs.Actuals.{signal_broken};
 ghost use Rattle.vd_value_rules.specs.Names.{broken_as_value};
 
 use crate::firsts::firsts_if;
 use std::alloc::{AllocError, Global};
 use vd_bytes::Place;
-use vd_port_agreement::refused_signal;
+use vd_port_associations::refused_signal;
 use vd_port_modes::{Interfaces, Oriented, Reached, names_view_port, reads_out};
-use vd_rule_groups::{Firsts, together};
+use vd_value_rules::{Firsts, together};
 
 /// What a signal breaks by its mode or view.
 fn disagreeing(

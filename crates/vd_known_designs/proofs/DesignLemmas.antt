@@ -5,12 +5,12 @@ use Rattle.vd_environments.specs.Environments.{Env}
 use Rattle.vd_forest.specs.Forest.{Forest}
 use Rattle.vd_forest.specs.Store.{Extends}
 use Rattle.vd_value_rules.specs.declared.forms.IndicatedForm.{IndicatedForm}
-use Rattle.vd_indicated_fields.proofs.JumpLemmas.{jumps_kept}
+use Rattle.vd_static_names.proofs.JumpLemmas.{jumps_kept}
 use Rattle.vd_value_rules.specs.Made.{Indicates}
 use Rattle.vd_known_designs.specs.Designs.{AreIndicated, IsReady, Knows}
 use Rattle.vd_known_designs.specs.declared.design.KnownDesign.{KnownDesign}
 use Rattle.vd_known_designs.specs.declared.indications.TwoSubtypes.{TwoSubtypes}
-use Rattle.vd_known_tables.proofs.KnownLemmas.{indicates_grown, known_grown}
+use Rattle.vd_known_designs.proofs.KnownLemmas.{indicates_grown, known_grown}
 use Rattle.vd_value_rules.specs.Designs.{Design}
 use Rattle.vd_value_rules.specs.Knowledge.{Known, TwoIndicated, at_mark, indicated_of}
 

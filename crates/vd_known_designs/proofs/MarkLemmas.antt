@@ -9,7 +9,7 @@ use Rattle.vd_value_rules.specs.Indicated.{texts_in}
 use Rattle.vd_value_rules.specs.declared.forms.IndicatedForm.{IndicatedForm}
 use Rattle.vd_known_designs.specs.Marks.{HasTexts, mark_of, marks_known}
 use Rattle.vd_known_designs.specs.declared.marks.Mark.{Mark}
-use Rattle.vd_known_tables.specs.Known.{none_known}
+use Rattle.vd_known_designs.specs.Known.{none_known}
 use Rattle.vd_meaning.specs.Given.{denoted_in}
 use Rattle.vd_value_rules.specs.Declaring.{type_known}
 

@@ -2,11 +2,11 @@
 use Rattle.std.specs.Prelude.{◌≡◌, ◌∷◌, List}
 use Rattle.vd_forest.specs.Forest.{Forest}
 use Rattle.vd_value_rules.specs.declared.forms.IndicatedForm.{IndicatedForm}
-use Rattle.vd_indicated_fields.specs.Jumps.{AreJumps}
+use Rattle.vd_static_names.specs.Jumps.{AreJumps}
 use Rattle.vd_value_rules.specs.Made.{Indicates}
 use Rattle.vd_known_designs.specs.declared.design.KnownDesign.{KnownDesign}
 use Rattle.vd_known_designs.specs.declared.indications.TwoSubtypes.{TwoSubtypes}
-use Rattle.vd_known_tables.specs.Known.{AreKnown}
+use Rattle.vd_known_designs.specs.Known.{AreKnown}
 use Rattle.vd_meaning.specs.Tables.{table}
 use Rattle.vd_value_rules.specs.Designs.{Design}
 use Rattle.vd_value_rules.specs.Knowledge.{Known, TwoIndicated}

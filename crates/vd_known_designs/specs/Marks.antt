@@ -3,7 +3,7 @@ use Rattle.std.specs.Prelude.{◌≡◌, ◌≤◌, List, [], length, ℕ}
 use Rattle.vd_environments.specs.Environments.{Env, Indicated}
 use Rattle.vd_forest.specs.Forest.{Forest}
 use Rattle.vd_forest.specs.Store.{at}
-use Rattle.vd_given.specs.Table.{characters}
+use Rattle.vd_predefined.specs.Table.{characters}
 use Rattle.vd_value_rules.specs.Indicated.{texts_in}
 use Rattle.vd_value_rules.specs.declared.forms.IndicatedForm.{IndicatedForm}
 use Rattle.vd_known_designs.specs.declared.literals.Literals.{Literals}

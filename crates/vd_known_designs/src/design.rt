@@ -6,11 +6,11 @@ ghost use Rattle.vd_meaning.specs.Tables.{table as table_of_design};
 ghost use Rattle.vd_value_rules.specs.Designs.{Design};
 ghost use Rattle.vd_value_rules.specs.Knowledge.{nothing_known};
 
+use crate::KnownTable;
 use crate::marks::given_table;
 use std::alloc::{AllocError, Global};
 use vd_declarations::Declaration;
-use vd_indicated_fields::FieldTable;
-use vd_known_tables::KnownTable;
+use vd_static_names::FieldTable;
 use vd_trees::Revision;
 
 /// A design with what is known of its declarations at a place, and at the places that the table is to go back to.

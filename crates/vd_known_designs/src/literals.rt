@@ -6,8 +6,8 @@ ghost use Rattle.vd_forest.specs.Store.{Extends};
 ghost use Rattle.vd_value_rules.specs.declared.forms.IndicatedForm.{IndicatedForm as Form};
 ghost use Rattle.vd_known_designs.specs.Marks.{HasLiterals, HasTexts, literals_of};
 
+use crate::SubtypeTables;
 use std::alloc::AllocError;
-use vd_subtype_tables::SubtypeTables;
 
 /// Whose literals a scalar type has.
 #[derive(Clone, Copy)]

@@ -5,7 +5,7 @@ ghost use Rattle.vd_environments.specs.Environments.{Indicated};
 ghost use Rattle.vd_forest.specs.Store.{Extends};
 ghost use Rattle.vd_value_rules.specs.Made.{Indicates};
 ghost use Rattle.vd_known_designs.specs.Marks.{HasLiterals, indicated_by, mark_of, marks_known};
-ghost use Rattle.vd_known_tables.specs.Known.{AreKnown};
+ghost use Rattle.vd_known_designs.specs.Known.{AreKnown};
 ghost use Rattle.vd_meaning.specs.Given.{marks as given_marks};
 ghost use Rattle.vd_meaning.specs.Tables.{Table};
 ghost use Rattle.vd_value_rules.specs.Knowledge.{nothing_known};
@@ -13,11 +13,10 @@ ghost use Rattle.vd_value_rules.specs.Knowledge.{nothing_known};
 use crate::literals::LiteralLists;
 use crate::literals::Literals::{self, *};
 use crate::marks::Sort::*;
+use crate::{KnownTable, SubtypeTables};
 use std::alloc::{AllocError, Global};
 use vd_composites::{Bounds, ScalarSubtype, ScalarType};
-use vd_given::numbers::*;
-use vd_known_tables::KnownTable;
-use vd_subtype_tables::SubtypeTables;
+use vd_predefined::numbers::*;
 use vd_value_rules::StaticSort;
 
 /// What a mark stands for.

@@ -5,27 +5,27 @@ use Rattle.vd_composites.specs.Composites.{Value}
 use Rattle.vd_composites.specs.Subtypes.{Subtype}
 use Rattle.vd_environments.specs.Environments.{Argument, Env, Indicated, Static, never}
 use Rattle.vd_environments.specs.Got.{Got}
-use Rattle.vd_facets.proofs.PassingLemmas.{nth_skipped}
+use Rattle.vd_operations.proofs.PassingLemmas.{nth_skipped}
 use Rattle.vd_bytes.specs.declared.places.Place.{Place}
 use Rattle.vd_meaning.specs.NodeFacets.{View}
 use Rattle.vd_meaning.specs.Instances.{view_in}
 use Rattle.vd_forest.specs.Forest.{Forest, more, nothing, skipped}
 use Rattle.vd_value_rules.specs.Indicated.{static_of}
 use Rattle.vd_value_rules.specs.declared.forms.IndicatedForm.{IndicatedForm}
-use Rattle.vd_indicated_fields.specs.Jumps.{AreJumps}
+use Rattle.vd_static_names.specs.Jumps.{AreJumps}
 use Rattle.vd_known_designs.specs.Designs.{IsReady, Knows}
 use Rattle.vd_known_designs.specs.declared.design.KnownDesign.{KnownDesign}
-use Rattle.vd_known_tables.specs.Known.{AreKnown}
-use Rattle.vd_known_tables.specs.declared.table.KnownTable.{KnownTable}
+use Rattle.vd_known_designs.specs.Known.{AreKnown}
+use Rattle.vd_known_designs.specs.declared.table.KnownTable.{KnownTable}
 use Rattle.vd_meaning.specs.Facets.{Meaning, nth}
 use Rattle.vd_meaning.specs.Meanings.{made, meanings}
 use Rattle.vd_meaning.specs.Names.{number_or}
 use Rattle.vd_meaning.specs.Tables.{Table}
 use Rattle.vd_port_modes.specs.Source.{Source, design_in}
 use Rattle.vd_resolved.specs.declared.node.Resolved.{Resolved}
-use Rattle.vd_static_entries.specs.Entries.{IsFound}
-use Rattle.vd_static_entries.specs.Nodes.{IsNode}
-use Rattle.vd_static_entries.specs.declared.nodes.Node.{Node}
+use Rattle.vd_static_values.specs.Entries.{IsFound}
+use Rattle.vd_static_values.specs.Nodes.{IsNode}
+use Rattle.vd_static_values.specs.declared.nodes.Node.{Node}
 use Rattle.vd_value_rules.specs.Declaring.{parameters_known, with_package}
 use Rattle.vd_value_rules.specs.Designs.{Design}
 use Rattle.vd_value_rules.specs.Knowledge.{Known, TwoIndicated, at_mark, constants_of, early_value, indicated_twice, later_objects, mark_of_view, meaning_at, parts_at, view_indicated, view_port_indicated}

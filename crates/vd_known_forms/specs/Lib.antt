@@ -1,1 +1,5 @@
+pub mod Objects
+pub mod Arrays
+pub mod Fields
+pub mod Texts
 pub mod Views

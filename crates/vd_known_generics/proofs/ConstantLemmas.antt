@@ -8,14 +8,14 @@ use Rattle.vd_environments.specs.Got.{Got}
 use Rattle.vd_forest.specs.Forest.{Forest}
 use Rattle.vd_value_rules.specs.Indicated.{static_of}
 use Rattle.vd_value_rules.specs.declared.forms.IndicatedForm.{IndicatedForm}
-use Rattle.vd_known_actuals.specs.Elements.{IsGiven}
-use Rattle.vd_known_actuals.specs.declared.elements.Given.{Given}
+use Rattle.vd_known_generics.specs.Elements.{IsGiven}
+use Rattle.vd_known_generics.specs.declared.elements.Given.{Given}
 use Rattle.vd_known_designs.specs.Designs.{Knows}
 use Rattle.vd_known_designs.specs.declared.design.KnownDesign.{KnownDesign}
 use Rattle.vd_meaning.specs.Facets.{Meaning}
-use Rattle.vd_static_entries.specs.Entries.{IsFound}
-use Rattle.vd_static_entries.specs.Senses.{IsSense}
-use Rattle.vd_static_entries.specs.declared.senses.Sense.{Sense}
+use Rattle.vd_static_values.specs.Entries.{IsFound}
+use Rattle.vd_static_values.specs.Senses.{IsSense}
+use Rattle.vd_static_values.specs.declared.senses.Sense.{Sense}
 use Rattle.vd_value_rules.specs.Declaring.{from_actual, static_of_actual}
 use Rattle.vd_value_rules.specs.Designs.{Design}
 use Rattle.vd_value_rules.specs.Knowledge.{Known, TwoIndicated, constant_of, early_value}

@@ -11,8 +11,8 @@ use Rattle.vd_known_designs.specs.declared.design.KnownDesign.{KnownDesign}
 use Rattle.vd_known_generics.specs.Copied.{AreCopied, IsCopied, or_no_entry}
 use Rattle.vd_known_generics.specs.declared.copies.Copied.{Copied}
 use Rattle.vd_meaning.specs.Tables.{Table, pairs}
-use Rattle.vd_static_entries.specs.Entries.{IsEntry, no_entry}
-use Rattle.vd_static_entries.specs.declared.entries.Entry.{Entry}
+use Rattle.vd_static_values.specs.Entries.{IsEntry, no_entry}
+use Rattle.vd_static_values.specs.declared.entries.Entry.{Entry}
 use Rattle.vd_value_rules.specs.Declaring.{taken_known}
 use Rattle.vd_value_rules.specs.Designs.{Design}
 use Rattle.vd_value_rules.specs.Knowledge.{Known, denoted, indicated_of}

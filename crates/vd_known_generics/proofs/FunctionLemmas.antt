@@ -8,21 +8,21 @@ use Rattle.vd_forest.specs.Store.{at}
 use Rattle.vd_value_rules.specs.Indicated.{indicated_in, static_of}
 use Rattle.vd_value_rules.specs.declared.forms.IndicatedForm.{IndicatedForm}
 use Rattle.vd_value_rules.specs.declared.statics.StaticSort.{StaticSort}
-use Rattle.vd_indicated_fields.specs.Jumps.{AreJumps}
+use Rattle.vd_static_names.specs.Jumps.{AreJumps}
 use Rattle.vd_value_rules.specs.Made.{Indicates}
-use Rattle.vd_known_actuals.specs.Actuals.{IsCalled, results_of}
-use Rattle.vd_known_actuals.specs.declared.functions.ActualFunction.{ActualFunction}
+use Rattle.vd_known_generics.specs.Actuals.{IsCalled, results_of}
+use Rattle.vd_known_generics.specs.declared.functions.ActualFunction.{ActualFunction}
 use Rattle.vd_known_designs.specs.Designs.{Knows}
 use Rattle.vd_known_designs.specs.declared.design.KnownDesign.{KnownDesign}
 use Rattle.vd_known_generics.proofs.InstanceLemmas.{on_ok}
 use Rattle.vd_known_generics.specs.Standing.{called_stands, function_of_copy}
-use Rattle.vd_known_tables.specs.Known.{AreKnown}
-use Rattle.vd_known_tables.specs.declared.table.KnownTable.{KnownTable}
+use Rattle.vd_known_designs.specs.Known.{AreKnown}
+use Rattle.vd_known_designs.specs.declared.table.KnownTable.{KnownTable}
 use Rattle.vd_meaning.specs.Names.{calls_known}
 use Rattle.vd_meaning.specs.Operators.{function_of}
 use Rattle.vd_meaning.specs.Tables.{Table, followed}
-use Rattle.vd_static_entries.specs.Entries.{IsEntry}
-use Rattle.vd_static_entries.specs.declared.entries.Entry.{Entry}
+use Rattle.vd_static_values.specs.Entries.{IsEntry}
+use Rattle.vd_static_values.specs.declared.entries.Entry.{Entry}
 use Rattle.vd_value_rules.specs.Declaring.{TwoActuals, function_denoted}
 use Rattle.vd_value_rules.specs.Designs.{Design}
 use Rattle.vd_value_rules.specs.Knowledge.{Known, TwoIndicated, denoted, indicated_of}

@@ -3,22 +3,22 @@ use Rattle.std.proofs.Common.{◌≡◌, ◌∷◌, List, None, Option, Some, []
 use Rattle.std.specs.Prelude.{Err, IfOk, MatchOption, Ok, OnOk, Result}
 use Rattle.vd_bytes.specs.declared.places.Place.{Place}
 use Rattle.vd_environments.specs.Environments.{Static, never}
-use Rattle.vd_facets.proofs.PassingLemmas.{nth_skipped}
+use Rattle.vd_operations.proofs.PassingLemmas.{nth_skipped}
 use Rattle.vd_forest.specs.Forest.{Forest, more, skipped}
 use Rattle.vd_forest.proofs.StoreLemmas.{extends_same}
 use Rattle.vd_forest.specs.Store.{Extends}
 use Rattle.vd_value_rules.specs.declared.forms.IndicatedForm.{IndicatedForm}
-use Rattle.vd_indicated_fields.specs.Jumps.{AreJumps}
-use Rattle.vd_known_actuals.specs.Actuals.{AreActuals}
-use Rattle.vd_known_actuals.specs.declared.actuals.Actual.{Actual}
+use Rattle.vd_static_names.specs.Jumps.{AreJumps}
+use Rattle.vd_known_generics.specs.Actuals.{AreActuals}
+use Rattle.vd_known_generics.specs.declared.actuals.Actual.{Actual}
 use Rattle.vd_known_designs.specs.Designs.{AreIndicated, Knows}
 use Rattle.vd_known_designs.specs.declared.design.KnownDesign.{KnownDesign}
 use Rattle.vd_known_designs.specs.declared.indications.TwoSubtypes.{TwoSubtypes}
 use Rattle.vd_known_generics.specs.Inside.{IsInside, inside_of}
 use Rattle.vd_known_generics.specs.Standing.{Stands}
-use Rattle.vd_known_tables.specs.Contents.{or_nothing}
-use Rattle.vd_known_tables.specs.Known.{AreKnown}
-use Rattle.vd_known_tables.specs.declared.table.KnownTable.{KnownTable}
+use Rattle.vd_known_designs.specs.Contents.{or_nothing}
+use Rattle.vd_known_designs.specs.Known.{AreKnown}
+use Rattle.vd_known_designs.specs.declared.table.KnownTable.{KnownTable}
 use Rattle.vd_meaning.specs.Facets.{MapElement, Meaning, nth}
 use Rattle.vd_meaning.specs.Meanings.{made, map_element, meanings}
 use Rattle.vd_meaning.specs.Names.{number_or}

@@ -1,3 +1,6 @@
+mod ElementLemmas
+mod ActualFunctionLemmas
+pub mod ActualLemmas
 mod StandingLemmas
 mod ConstantLemmas
 mod CopyLemmas

@@ -7,9 +7,9 @@ use Rattle.vd_forms.specs.declared.form.Form.{Form}
 use Rattle.vd_forms.specs.declared.form.Form.TheVariants as form
 use Rattle.vd_value_rules.specs.Indicated.{indicated_in}
 use Rattle.vd_value_rules.specs.declared.forms.IndicatedForm.{IndicatedForm}
-use Rattle.vd_known_actuals.proofs.ActualLemmas.{actuals_grown}
-use Rattle.vd_known_actuals.specs.Actuals.{AreActuals, IsActual}
-use Rattle.vd_known_actuals.specs.declared.actuals.Actual.{Actual}
+use Rattle.vd_known_generics.proofs.ActualLemmas.{actuals_grown}
+use Rattle.vd_known_generics.specs.Actuals.{AreActuals, IsActual}
+use Rattle.vd_known_generics.specs.declared.actuals.Actual.{Actual}
 use Rattle.vd_known_designs.specs.Designs.{AreIndicated, IsReady, Knows}
 use Rattle.vd_known_designs.specs.declared.design.KnownDesign.{KnownDesign}
 use Rattle.vd_known_designs.specs.declared.indications.TwoSubtypes.{TwoSubtypes}

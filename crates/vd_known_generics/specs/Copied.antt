@@ -5,8 +5,8 @@ use Rattle.vd_value_rules.specs.declared.forms.IndicatedForm.{IndicatedForm}
 use Rattle.vd_value_rules.specs.Made.{Indicates}
 use Rattle.vd_known_generics.specs.declared.copies.Copied.{Copied}
 use Rattle.vd_meaning.specs.Tables.{Table}
-use Rattle.vd_static_entries.specs.Entries.{IsEntry, no_entry}
-use Rattle.vd_static_entries.specs.declared.entries.Entry.{Entry}
+use Rattle.vd_static_values.specs.Entries.{IsEntry, no_entry}
+use Rattle.vd_static_values.specs.declared.entries.Entry.{Entry}
 use Rattle.vd_value_rules.specs.Knowledge.{Known, indicated_of}
 
 abbrev pub or_no_entry : Option Entry → Entry

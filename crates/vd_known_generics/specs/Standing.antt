@@ -1,8 +1,8 @@
 -- Generics that stand for their actuals, one after the other, in memory.
 use Rattle.std.specs.Prelude.{◌≡◌, ◌∷◌, List, ℕ}
 use Rattle.vd_environments.specs.Environments.{Function, Static, never}
-use Rattle.vd_known_actuals.specs.Actuals.{AreActuals, results_of}
-use Rattle.vd_known_actuals.specs.declared.actuals.Actual.{Actual}
+use Rattle.vd_known_generics.specs.Actuals.{AreActuals, results_of}
+use Rattle.vd_known_generics.specs.declared.actuals.Actual.{Actual}
 use Rattle.vd_known_designs.specs.Designs.{Knows}
 use Rattle.vd_known_designs.specs.declared.design.KnownDesign.{KnownDesign}
 use Rattle.vd_meaning.specs.Names.{calls_known}

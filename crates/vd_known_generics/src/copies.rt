@@ -12,7 +12,7 @@ use std::alloc::{AllocError, Global};
 use vd_composites::Value;
 use vd_declarations::DeclId;
 use vd_known_designs::KnownDesign;
-use vd_static_entries::Entry;
+use vd_static_values::Entry;
 use vd_value_rules::StaticSort;
 use vd_values::Scalar;
 

@@ -3,7 +3,7 @@
 ghost use Rattle.std.specs.Prelude.{◌≡◌, ◌≤◌, ◌∷◌, IfOk, List, OnOk, length};
 ghost use Rattle.vd_environments.specs.Environments.{Function, Static};
 ghost use Rattle.vd_forest.specs.Store.{Extends};
-ghost use Rattle.vd_known_actuals.specs.Actuals.{IsCalled};
+ghost use Rattle.vd_known_generics.specs.Actuals.{IsCalled};
 ghost use Rattle.vd_known_designs.specs.Designs.{Knows};
 ghost use Rattle.vd_known_generics.specs.Standing.{CanStand, Stands, called_stands, function_of_copy};
 ghost use Rattle.vd_value_rules.specs.Declaring.{KnownAndLeft, generic_stands as with_generic, generics_stand as with_generics, next_stands, type_stands as with_type};
@@ -12,16 +12,16 @@ ghost use Rattle.vd_value_rules.specs.Knowledge.{Known, TwoIndicated};
 
 use crate::constants::declared_constants_stand;
 use crate::left::next_actual;
+use crate::{Actual, ActualFunction, actual_function};
 use std::alloc::{AllocError, Global};
 use vd_composites::Value;
 use vd_declarations::DeclId;
-use vd_facets::number_made;
 use vd_forest::{Cursor, Opened};
 use vd_forms::Form;
-use vd_known_actuals::{Actual, ActualFunction, actual_function};
 use vd_known_designs::KnownDesign;
+use vd_operations::number_made;
 use vd_resolved::Resolved;
-use vd_static_entries::Entry;
+use vd_static_values::Entry;
 use vd_values::Scalar;
 
 /// A type that stands for its actual. It gives the actuals that are left.

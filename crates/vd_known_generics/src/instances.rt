@@ -8,7 +8,7 @@ ghost use Rattle.vd_known_designs.specs.Designs.{AreIndicated, IsReady, Knows};
 ghost use Rattle.vd_known_generics.specs.Inside.{IsInside, inside_of};
 ghost use Rattle.vd_known_generics.specs.Standing.{called_stands};
 ghost use Rattle.vd_known_indications.specs.Places.{IsRemembering};
-ghost use Rattle.vd_known_tables.specs.Contents.{or_nothing};
+ghost use Rattle.vd_known_designs.specs.Contents.{or_nothing};
 ghost use Rattle.vd_meaning.specs.Meanings.{map_element, meanings};
 ghost use Rattle.vd_meaning.specs.Names.{number_or};
 ghost use Rattle.vd_value_rules.specs.Declaring.{FunctionInstance, actuals_known as all_known, declared_by, generics_stand as every_stand, instance_of_function, parameters_known as with_parameters, taken_known};
@@ -17,16 +17,16 @@ ghost use Rattle.vd_value_rules.specs.Knowledge.{Known, TwoIndicated, indicated_
 
 use crate::copies::{all_copied, pairs, set_copies};
 use crate::generics::{all_stand, function_set};
+use crate::{ActualFunction, actuals_known};
 use std::alloc::{AllocError, Global};
 use vd_declarations::DeclId;
-use vd_facets::{declaration_of, elements_of, number_made};
 use vd_forest::Cursor;
 use vd_function_names::numbers::numbers_of_first;
-use vd_known_actuals::{ActualFunction, actuals_known};
 use vd_known_designs::{KnownDesign, TwoSubtypes};
+use vd_known_forms::objects::later_objects;
 use vd_known_indications::indicated_twice;
-use vd_known_objects::objects::later_objects;
 use vd_operations::tables::parameters_of;
+use vd_operations::{declaration_of, elements_of, number_made};
 use vd_resolved::Resolved;
 use vd_value_rules::StaticSort;
 

@@ -2,7 +2,7 @@
 
 ghost use Rattle.std.specs.Prelude.{◌≡◌, ◌∷◌, [], MatchOption};
 
-use vd_known_actuals::Actual;
+use crate::Actual;
 
 /// The next actual, and those behind it.
 #[derive(Clone, Copy, Drop)]

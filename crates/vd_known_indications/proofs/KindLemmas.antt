@@ -8,10 +8,10 @@ use Rattle.vd_meaning.specs.Facets.{Meaning, no_meaning, of_node}
 use Rattle.vd_meaning.specs.Kinds
 use Rattle.vd_meaning.specs.Meanings.{meaning_of}
 use Rattle.vd_resolved.specs.declared.node.Resolved.{Resolved}
-use Rattle.vd_static_entries.specs.Entries.{table_of}
-use Rattle.vd_static_entries.specs.Nodes.{IsNode}
-use Rattle.vd_static_entries.specs.declared.entries.Ground.{Ground}
-use Rattle.vd_static_entries.specs.declared.nodes.Node.{Node}
+use Rattle.vd_static_values.specs.Entries.{table_of}
+use Rattle.vd_static_values.specs.Nodes.{IsNode}
+use Rattle.vd_static_values.specs.declared.entries.Ground.{Ground}
+use Rattle.vd_static_values.specs.declared.nodes.Node.{Node}
 use Rattle.vd_known_indications.specs.Kinds.{IsMadeAs, node_kind}
 use Rattle.vd_known_indications.specs.declared.kinds.NodeKind.{NodeKind}
 use Rattle.vd_static_parts.specs.Made.{IsMade}

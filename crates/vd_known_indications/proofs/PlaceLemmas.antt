@@ -2,10 +2,10 @@
 use Rattle.std.proofs.Common.{◌≡◌, ◌∷◌, List, subst}
 use Rattle.vd_known_designs.specs.Designs.{IsReady}
 use Rattle.vd_known_designs.specs.declared.design.KnownDesign.{KnownDesign}
-use Rattle.vd_known_tables.specs.Known.{AreKnown}
+use Rattle.vd_known_designs.specs.Known.{AreKnown}
 use Rattle.vd_meaning.specs.Tables.{table}
-use Rattle.vd_static_entries.specs.Entries.{IsGround}
-use Rattle.vd_static_entries.specs.declared.entries.Ground.{Ground}
+use Rattle.vd_static_values.specs.Entries.{IsGround}
+use Rattle.vd_static_values.specs.declared.entries.Ground.{Ground}
 use Rattle.vd_static_names.specs.Known.{HasSubtypes}
 use Rattle.vd_value_rules.specs.Knowledge.{Known}
 

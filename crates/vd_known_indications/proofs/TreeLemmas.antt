@@ -3,21 +3,21 @@ use Rattle.std.proofs.Common.{◌≡◌, List, [], ◌∷◌, subst, sym, ℕ}
 use Rattle.std.specs.Global.{Global}
 use Rattle.std.specs.List.{All}
 use Rattle.std.specs.Prelude.{Err, IfOk, Ok, Result, Vec}
-use Rattle.vd_bottom_up.specs.Trees.{AreTrees}
+use Rattle.vd_walks.specs.Trees.{AreTrees}
 use Rattle.vd_bytes.specs.declared.places.Place.{Place}
 use Rattle.vd_environments.specs.Environments.{Env}
 use Rattle.vd_forest.specs.Forest.{Forest, more, nothing}
 use Rattle.vd_value_rules.specs.declared.forms.IndicatedForm.{IndicatedForm}
-use Rattle.vd_indicated_fields.specs.Jumps.{AreJumps}
-use Rattle.vd_indicated_fields.specs.declared.jumps.Jump.{Jump}
+use Rattle.vd_static_names.specs.Jumps.{AreJumps}
+use Rattle.vd_static_names.specs.declared.jumps.Jump.{Jump}
 use Rattle.vd_meaning.specs.Facets.{no_meaning}
 use Rattle.vd_meaning.specs.Kinds
 use Rattle.vd_meaning.specs.Meanings.{meanings}
 use Rattle.vd_resolved.specs.declared.node.Resolved.{Resolved}
-use Rattle.vd_static_entries.specs.Entries.{IsGround, table_of}
-use Rattle.vd_static_entries.specs.Nodes.{AreNodes, IsNode}
-use Rattle.vd_static_entries.specs.declared.entries.Ground.{Ground}
-use Rattle.vd_static_entries.specs.declared.nodes.Node.{Node}
+use Rattle.vd_static_values.specs.Entries.{IsGround, table_of}
+use Rattle.vd_static_values.specs.Nodes.{AreNodes, IsNode}
+use Rattle.vd_static_values.specs.declared.entries.Ground.{Ground}
+use Rattle.vd_static_values.specs.declared.nodes.Node.{Node}
 use Rattle.vd_known_indications.specs.Found.{AreKnownNodes, IsKnownNode}
 use Rattle.vd_static_parts.specs.Made.{IsMade, IsSound}
 

@@ -5,10 +5,10 @@ use Rattle.vd_forest.specs.Forest.{Forest}
 use Rattle.vd_meaning.specs.Facets.{nth}
 use Rattle.vd_meaning.specs.Meanings.{meanings}
 use Rattle.vd_resolved.specs.declared.node.Resolved.{Resolved}
-use Rattle.vd_static_entries.specs.Entries.{IsGround, table_of}
-use Rattle.vd_static_entries.specs.Nodes.{AreNodes, IsNode}
-use Rattle.vd_static_entries.specs.declared.entries.Ground.{Ground}
-use Rattle.vd_static_entries.specs.declared.nodes.Node.{Node}
+use Rattle.vd_static_values.specs.Entries.{IsGround, table_of}
+use Rattle.vd_static_values.specs.Nodes.{AreNodes, IsNode}
+use Rattle.vd_static_values.specs.declared.entries.Ground.{Ground}
+use Rattle.vd_static_values.specs.declared.nodes.Node.{Node}
 
 -- of all trees of a forest, over whatever environment has what is known of the declarations
 abbrev pub AreKnownNodes : Ground → Forest Resolved → List Node → Type 0

@@ -6,9 +6,9 @@ use Rattle.vd_value_rules.specs.declared.forms.IndicatedForm.{IndicatedForm}
 use Rattle.vd_meaning.specs.Facets.{Meaning, no_meaning, of_node}
 use Rattle.vd_meaning.specs.Kinds
 use Rattle.vd_resolved.specs.declared.node.Resolved.{Resolved}
-use Rattle.vd_static_entries.specs.Nodes.{IsNode}
-use Rattle.vd_static_entries.specs.declared.entries.Ground.{Ground}
-use Rattle.vd_static_entries.specs.declared.nodes.Node.{Node}
+use Rattle.vd_static_values.specs.Nodes.{IsNode}
+use Rattle.vd_static_values.specs.declared.entries.Ground.{Ground}
+use Rattle.vd_static_values.specs.declared.nodes.Node.{Node}
 use Rattle.vd_known_indications.specs.declared.kinds.Leaf.{Leaf}
 use Rattle.vd_known_indications.specs.declared.kinds.Leaf.TheVariants as leaf
 use Rattle.vd_known_indications.specs.declared.kinds.Listing.{Listing}

@@ -5,7 +5,7 @@ ghost use Rattle.std.specs.List.{All};
 ghost use Rattle.vd_known_designs.specs.Designs.{IsReady, Knows};
 ghost use Rattle.vd_meaning.specs.Facets.{nth};
 ghost use Rattle.vd_meaning.specs.Meanings.{meanings};
-ghost use Rattle.vd_static_entries.specs.Nodes.{AreNodes, IsNode};
+ghost use Rattle.vd_static_values.specs.Nodes.{AreNodes, IsNode};
 ghost use Rattle.vd_static_parts.specs.Made.{IsSound};
 ghost use Rattle.vd_value_rules.specs.Designs.{Design};
 ghost use Rattle.vd_value_rules.specs.Knowledge.{Known};
@@ -15,7 +15,7 @@ use std::alloc::{AllocError, Global};
 use vd_forest::Cursor;
 use vd_known_designs::KnownDesign;
 use vd_resolved::Resolved;
-use vd_static_entries::Node;
+use vd_static_values::Node;
 
 /// What the trees of a forest come to.
 pub fn nodes<'b>(

@@ -9,8 +9,8 @@ ghost use Rattle.vd_value_rules.specs.Found.{found};
 ghost use Rattle.vd_known_designs.specs.Designs.{AreIndicated, IsReady, Knows};
 ghost use Rattle.vd_known_indications.specs.Constraints.{IsConstraintIn};
 ghost use Rattle.vd_meaning.specs.Facets.{Meaning, nth};
-ghost use Rattle.vd_static_entries.specs.Nodes.{AreNodes};
-ghost use Rattle.vd_static_entries.specs.Senses.{IsSense};
+ghost use Rattle.vd_static_values.specs.Nodes.{AreNodes};
+ghost use Rattle.vd_static_values.specs.Senses.{IsSense};
 ghost use Rattle.vd_value_rules.specs.Designs.{Design};
 ghost use Rattle.vd_value_rules.specs.Knowledge.{Known, early_range as range_early, indicated_twice as indicated_both_ways};
 
@@ -21,7 +21,7 @@ use vd_declarations::DeclId;
 use vd_forest::Cursor;
 use vd_known_designs::{KnownDesign, TwoSubtypes};
 use vd_resolved::Resolved;
-use vd_static_entries::{Node, Ranging, Sense};
+use vd_static_values::{Node, Ranging, Sense};
 use vd_value_rules::StaticSort;
 
 /// A constraint: its range, where that is locally static and doesn't stop, and how static it is.

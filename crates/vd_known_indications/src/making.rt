@@ -2,7 +2,7 @@
 
 ghost use Rattle.std.specs.Prelude.{◌≡◌, IfOk};
 ghost use Rattle.std.specs.List.{All};
-ghost use Rattle.vd_indicated_fields.specs.Jumps.{AreJumps};
+ghost use Rattle.vd_static_names.specs.Jumps.{AreJumps};
 ghost use Rattle.vd_meaning.specs.Kinds.{kind as kind_in};
 ghost use Rattle.vd_known_indications.specs.Kinds.{IsMadeAs};
 ghost use Rattle.vd_known_indications.specs.declared.kinds.NodeKind.TheVariants as code;
@@ -11,9 +11,8 @@ ghost use Rattle.vd_static_parts.specs.Made.{IsMade, IsSound};
 
 use crate::kinds::{Leaf, Listing, NodeKind, PieceKind, RangeKind, kind_of};
 use std::alloc::{AllocError, Global};
-use vd_indicated_fields::FieldTable;
 use vd_resolved::Resolved;
-use vd_static_entries::{Ground, Node};
+use vd_static_names::FieldTable;
 use vd_static_nodes::choices::{any_choice, choice_list};
 use vd_static_nodes::elements::{association, open_actual, others_association};
 use vd_static_nodes::expressions::{brackets, operator};
@@ -24,6 +23,7 @@ use vd_static_nodes::{
     range_piece, selection_piece, string_literal, time_literal, whole_name, word,
 };
 use vd_static_parts::nodes::{absent, plain};
+use vd_static_values::{Ground, Node};
 
 /// A word or a literal.
 fn leaf<'a>(

@@ -2,7 +2,7 @@
 
 ghost use Rattle.std.specs.Prelude.{IfOk};
 ghost use Rattle.std.specs.List.{All};
-ghost use Rattle.vd_indicated_fields.specs.Jumps.{AreJumps};
+ghost use Rattle.vd_static_names.specs.Jumps.{AreJumps};
 ghost use Rattle.vd_known_indications.specs.Found.{AreKnownNodes, IsKnownNode};
 ghost use Rattle.vd_static_names.specs.Known.{HasSubtypes};
 ghost use Rattle.vd_static_parts.specs.Made.{IsSound};
@@ -10,12 +10,12 @@ ghost use Rattle.vd_static_parts.specs.Made.{IsSound};
 use crate::making::node_of;
 use std::alloc::{AllocError, Global};
 use std::mem;
-use vd_bottom_up::{BottomUp, bottom_up};
-use vd_forest::Cursor;
-use vd_indicated_fields::FieldTable;
+use vd_forest::{Cursor, Opened};
 use vd_resolved::Resolved;
-use vd_static_entries::{Ground, Node};
+use vd_static_names::FieldTable;
 use vd_static_parts::nodes::absent;
+use vd_static_values::{Ground, Node};
+use vd_walks::{FromLeaves, from_leaves};
 
 /// What trees are read over.
 #[derive(Drop)]
@@ -24,9 +24,9 @@ struct Reading<'d> {
     fields: FieldTable,
 }
 
-impl<'a, 'd> BottomUp<'a, Resolved, Node<'a>> for Reading<'d> {
-    ghost use Rattle.vd_indicated_fields.specs.Jumps.{AreJumps};
-    ghost use Rattle.vd_static_entries.specs.declared.entries.Ground.{Ground};
+impl<'a, 'd> FromLeaves<'a, Resolved, Node<'a>> for Reading<'d> {
+    ghost use Rattle.vd_static_names.specs.Jumps.{AreJumps};
+    ghost use Rattle.vd_static_values.specs.declared.entries.Ground.{Ground};
     ghost use Rattle.vd_known_indications.specs.Found.{IsKnownNode};
     ghost use Rattle.vd_static_names.specs.Known.{HasSubtypes};
     ghost use Rattle.vd_static_parts.specs.Made.{IsSound};
@@ -41,14 +41,20 @@ impl<'a, 'd> BottomUp<'a, Resolved, Node<'a>> for Reading<'d> {
 
     ghost comes_to = { λ by. IsKnownNode by.ground };
 
-    fn node(
+    fn tree(
         &mut self,
         alloc: Global,
-        form: Resolved,
-        text: &'a [u8],
+        tree: &Opened<'a, Resolved>,
         parts: &[Node<'a>],
     ) -> Result<Node<'a>, AllocError> {
-        node_of(alloc, &self.ground, &mut self.fields, form, text, parts)
+        node_of(
+            alloc,
+            &self.ground,
+            &mut self.fields,
+            tree.form,
+            tree.text,
+            parts,
+        )
     }
 }
 
@@ -69,7 +75,7 @@ pub fn known_nodes<'a>(
         ground: *ground,
         fields: mem::replace(fields, FieldTable::new(alloc)),
     };
-    let made = bottom_up(alloc, trees, &mut reading);
+    let made = from_leaves(alloc, trees, &mut reading);
     *fields = reading.fields;
     made
 }

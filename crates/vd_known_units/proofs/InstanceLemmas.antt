@@ -5,7 +5,7 @@ use Rattle.vd_forest.specs.Forest.{Forest}
 use Rattle.vd_known_designs.specs.Designs.{Knows}
 use Rattle.vd_known_designs.specs.declared.design.KnownDesign.{KnownDesign}
 use Rattle.vd_known_indications.specs.Places.{IsRemembering}
-use Rattle.vd_known_tables.specs.Contents.{or_nothing}
+use Rattle.vd_known_designs.specs.Contents.{or_nothing}
 use Rattle.vd_known_units.specs.Units.{is_instance}
 use Rattle.vd_meaning.specs.Facets.{MapElement}
 use Rattle.vd_meaning.specs.Meanings.{map_element, meanings}

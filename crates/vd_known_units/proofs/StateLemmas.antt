@@ -5,9 +5,9 @@ use Rattle.vd_forest.proofs.StoreLemmas.{extends_same}
 use Rattle.vd_forest.specs.Store.{Extends}
 use Rattle.vd_known_designs.specs.Designs.{Knows}
 use Rattle.vd_known_designs.specs.declared.design.KnownDesign.{KnownDesign}
-use Rattle.vd_known_objects.proofs.ObjectLemmas.{knows_changed}
-use Rattle.vd_known_tables.specs.Known.{AreKnown}
-use Rattle.vd_known_tables.specs.declared.table.KnownTable.{KnownTable}
+use Rattle.vd_known_forms.proofs.ObjectLemmas.{knows_changed}
+use Rattle.vd_known_designs.specs.Known.{AreKnown}
+use Rattle.vd_known_designs.specs.declared.table.KnownTable.{KnownTable}
 use Rattle.vd_value_rules.specs.Designs.{Design}
 use Rattle.vd_value_rules.specs.Knowledge.{Known}
 

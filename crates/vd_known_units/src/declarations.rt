@@ -15,12 +15,11 @@ use crate::states::{back, keep};
 use crate::walking::{Declares, declare_all};
 use std::alloc::{AllocError, Global};
 use vd_forest::Cursor;
-use vd_known_declarations::{subtype_declared, type_declared};
 use vd_known_designs::KnownDesign;
 use vd_known_forms::{
     constants_declared, function_declared, generic_function_declared, generics_declared,
-    package_declared, parameters_declared, ports_declared, signals_declared, variables_declared,
-    view_ports_declared,
+    package_declared, parameters_declared, ports_declared, signals_declared, subtype_declared,
+    type_declared, variables_declared, view_ports_declared,
 };
 use vd_known_generics::function_instance_declared;
 use vd_port_modes::Interfaces;

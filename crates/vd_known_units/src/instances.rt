@@ -3,7 +3,7 @@
 ghost use Rattle.std.specs.Prelude.{◌≡◌, ◌∷◌, List, OnOk, map};
 ghost use Rattle.vd_known_designs.specs.Designs.{IsReady, Knows};
 ghost use Rattle.vd_known_forms.specs.Views.{HasViews};
-ghost use Rattle.vd_known_tables.specs.Contents.{or_nothing};
+ghost use Rattle.vd_known_designs.specs.Contents.{or_nothing};
 ghost use Rattle.vd_meaning.specs.Meanings.{map_element, meanings};
 ghost use Rattle.vd_meaning.specs.Names.{number_or as number_or_none};
 ghost use Rattle.vd_value_rules.specs.Declaring.{actuals_known, declared as all_declared, generics_stand as all_stand, instance_of_package};
@@ -15,10 +15,10 @@ use crate::declarations::declared;
 use crate::states::remember;
 use std::alloc::{AllocError, Global};
 use vd_declarations::DeclId;
-use vd_facets::{declaration_of, elements_of, number_made};
 use vd_forest::Cursor;
 use vd_known_designs::KnownDesign;
 use vd_known_generics::{generics_stand, taken};
+use vd_operations::{declaration_of, elements_of, number_made};
 use vd_port_modes::Interfaces;
 use vd_resolved::Resolved;
 

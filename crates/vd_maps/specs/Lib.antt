@@ -9,3 +9,8 @@ pub mod Tests
 pub mod Tops
 pub mod Units
 pub mod WholeMaps
+pub mod Laws
+pub mod Expressions
+pub mod Packages
+pub mod Paths
+pub mod Views

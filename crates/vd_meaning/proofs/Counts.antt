@@ -1,6 +1,6 @@
 -- How many declarations are given.
 use Rattle.std.proofs.Common.{refl}
-use Rattle.vd_given.specs.Table.{standard_types, standard_operators, logic_types, logic_operators}
+use Rattle.vd_predefined.specs.Table.{standard_types, standard_operators, logic_types, logic_operators}
 use Rattle.vd_meaning.specs.Given.{GivenCounted}
 
 pub counted : GivenCounted

@@ -9,9 +9,9 @@ use Rattle.vd_composites.specs.declared.scalars.ScalarSubtype.{ScalarSubtype}
 use Rattle.vd_composites.specs.Scalars.{whole_range}
 use Rattle.vd_composites.specs.Subtypes.{Scalars, Arrays}
 use Rattle.vd_kernel.specs.Models.{View}
-use Rattle.vd_given.specs.declared.numbers.TheConstants.{BOOLEAN, BIT, CHARACTER, SEVERITY_LEVEL, INTEGER, TIME, DELAY_LENGTH, NATURAL, POSITIVE, STRING, BIT_VECTOR, STD_ULOGIC, STD_ULOGIC_VECTOR, STD_LOGIC, STD_LOGIC_VECTOR, X01, X01Z, UX01, UX01Z}
-use Rattle.vd_given.specs.Given.{given_scopes}
-use Rattle.vd_given.specs.Table.{characters}
+use Rattle.vd_predefined.specs.declared.numbers.TheConstants.{BOOLEAN, BIT, CHARACTER, SEVERITY_LEVEL, INTEGER, TIME, DELAY_LENGTH, NATURAL, POSITIVE, STRING, BIT_VECTOR, STD_ULOGIC, STD_ULOGIC_VECTOR, STD_LOGIC, STD_LOGIC_VECTOR, X01, X01Z, UX01, UX01Z}
+use Rattle.vd_predefined.specs.Given.{given_scopes}
+use Rattle.vd_predefined.specs.Table.{characters}
 use Rattle.vd_environments.specs.Environments.{always, OfScalar, OfElements, Denotation, nothing_denoted, no_subtype, Env, Indicated}
 use Rattle.vd_meaning.specs.Tables.{given_count}
 

@@ -33,7 +33,7 @@ use Rattle.vd_operators.specs.declared.op.BinaryOp.{BinaryOp}
 use Rattle.vd_operators.specs.declared.op.BinaryOp.TheVariants as two
 use Rattle.vd_operators.specs.Applied.{applied}
 use Rattle.vd_operators.specs.Texts.{text}
-use Rattle.vd_given.specs.Lines.{quoted}
+use Rattle.vd_predefined.specs.Lines.{quoted}
 use Rattle.vd_environments.specs.Got.{Got, got, all_got, senseless}
 use Rattle.vd_environments.specs.Environments.{Argument, Function, Signals, Env, unknown}
 use Rattle.vd_meaning.specs.Tables.{Table, Sort, IntegerSort, TimeSort, LogicSort, LogicsSort, sort_of, same_type, operand_types, is_predefined, is_brought}

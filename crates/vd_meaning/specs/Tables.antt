@@ -9,7 +9,7 @@ use Rattle.vd_declarations.specs.declared.declarations.Declaration.{Declaration}
 use Rattle.vd_forest.specs.Forest.{no_place}
 use Rattle.vd_vectors.specs.declared.logics.LogicType.{LogicType}
 use Rattle.vd_vectors.specs.declared.logics.LogicType.TheVariants.{TwoValued, NineValued}
-use Rattle.vd_given.specs.declared.numbers.TheConstants.{BOOLEAN, BIT, INTEGER, TIME, STD_ULOGIC, STD_ULOGIC_VECTOR, STD_LOGIC_VECTOR}
+use Rattle.vd_predefined.specs.declared.numbers.TheConstants.{BOOLEAN, BIT, INTEGER, TIME, STD_ULOGIC, STD_ULOGIC_VECTOR, STD_LOGIC_VECTOR}
 
 -- Each declaration of a design by its number; those that no file has come first, and are so many.
 pub record Table : Type 0 where

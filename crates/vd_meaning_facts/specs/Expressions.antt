@@ -12,8 +12,8 @@ use Rattle.vd_composites.specs.declared.ranges.Bounds.{Bounds}
 use Rattle.vd_composites.specs.declared.scalars.ScalarType.TheVariants.{Integers, Enumeration}
 use Rattle.vd_composites.specs.Composites.{Value, One, Array, items_of}
 use Rattle.vd_composites.specs.Subtypes.{Subtype, Arrays}
-use Rattle.vd_given.specs.Entries.{declared}
-use Rattle.vd_given.specs.declared.numbers.TheConstants.{BOOLEAN, BIT, INTEGER, TIME, STRING, BIT_VECTOR, STD_ULOGIC}
+use Rattle.vd_predefined.specs.Entries.{declared}
+use Rattle.vd_predefined.specs.declared.numbers.TheConstants.{BOOLEAN, BIT, INTEGER, TIME, STRING, BIT_VECTOR, STD_ULOGIC}
 use Rattle.vd_environments.specs.Got.{Got, stop}
 use Rattle.vd_environments.specs.Environments.{Env, Signals, always, never, OfElements, no_make, Indicated, with_object, with_subtype, with_signals, unknown}
 use Rattle.vd_meaning.specs.Given.{given_env, whole, numbers_from, arrays, scalars, enumeration, bits}

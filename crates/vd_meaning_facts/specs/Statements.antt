@@ -15,8 +15,8 @@ use Rattle.vd_forms.specs.declared.form.Form.{Form}
 use Rattle.vd_resolved.specs.declared.node.Resolved.{Resolved}
 use Rattle.vd_forms.specs.declared.form.Form.TheVariants as form
 use Rattle.vd_composites.specs.Composites.{Value}
-use Rattle.vd_given.specs.Entries.{declared}
-use Rattle.vd_given.specs.declared.numbers.TheConstants.{BOOLEAN, BIT, INTEGER, TIME, STRING, BIT_VECTOR, STD_ULOGIC}
+use Rattle.vd_predefined.specs.Entries.{declared}
+use Rattle.vd_predefined.specs.declared.numbers.TheConstants.{BOOLEAN, BIT, INTEGER, TIME, STRING, BIT_VECTOR, STD_ULOGIC}
 use Rattle.vd_environments.specs.Got.{Got, stop, all_got}
 use Rattle.vd_environments.specs.Environments.{Env, unknown}
 use Rattle.vd_environments.specs.Processes.{Process, Running, Elaborated, elaborated, step}
@@ -95,7 +95,7 @@ wait_until = plain form.WaitStatement (absent ∷ equal STD_ULOGIC (name s STD_U
 
 -- assert a = 4 report "no" severity failure;
 abbrev pub severity : ℕ → Forest Resolved
-severity position = longer Rattle.vd_given.specs.declared.numbers.TheConstants.SEVERITY_LEVEL (node form.Identifier (Some (Rattle.std.specs.Prelude.◌+◌ 141 position)) (Some 140) position [] [] ∷ [])
+severity position = longer Rattle.vd_predefined.specs.declared.numbers.TheConstants.SEVERITY_LEVEL (node form.Identifier (Some (Rattle.std.specs.Prelude.◌+◌ 141 position)) (Some 140) position [] [] ∷ [])
 
 abbrev pub check : List ℕ → Forest Resolved
 check digits = plain form.AssertStatement (equal INTEGER (name a INTEGER) (number digits) ∷ quotes STRING (codes "no") ∷ severity 3 ∷ [])

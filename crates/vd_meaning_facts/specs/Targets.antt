@@ -6,7 +6,7 @@ use Rattle.vd_declarations.specs.declared.declarations.Declaration.{Declaration}
 use Rattle.vd_forest.specs.Forest.{Forest}
 use Rattle.vd_forms.specs.declared.form.Form.TheVariants as form
 use Rattle.vd_resolved.specs.declared.node.Resolved.{Resolved}
-use Rattle.vd_given.specs.declared.numbers.TheConstants.{BIT, INTEGER, BIT_VECTOR}
+use Rattle.vd_predefined.specs.declared.numbers.TheConstants.{BIT, INTEGER, BIT_VECTOR}
 use Rattle.vd_composites.specs.Stops.{◌>>=◌}
 use Rattle.vd_environments.specs.Got.{Got, stop}
 use Rattle.vd_meaning_facts.specs.Trees.{own, object, node, plain, absent, of, leaf, operator, number, first, name, longer, arguments, attribute, mark_piece, upto, others, meaning}

@@ -8,9 +8,9 @@ use Rattle.vd_forms.specs.declared.form.Form.{Form}
 use Rattle.vd_forms.specs.declared.form.Form.TheVariants as form
 use Rattle.vd_resolved.specs.declared.node.Resolved.{Resolved}
 use Rattle.vd_resolved.specs.Trees.{side_by_side}
-use Rattle.vd_given.specs.Given.{given_scopes}
-use Rattle.vd_given.specs.Entries.{declared}
-use Rattle.vd_given.specs.Lines.{quoted}
+use Rattle.vd_predefined.specs.Given.{given_scopes}
+use Rattle.vd_predefined.specs.Entries.{declared}
+use Rattle.vd_predefined.specs.Lines.{quoted}
 use Rattle.vd_meaning.specs.Tables.{table, same_type, no_declaration}
 use Rattle.vd_meaning.specs.Facets.{Meaning, nth}
 use Rattle.vd_meaning.specs.Meanings.{meanings}
@@ -73,7 +73,7 @@ operator f symbol types mark parts = node f (Some (number_of (quoted symbol) typ
 -- ---- expressions
 
 abbrev pub number : List ℕ → Forest Resolved
-number digits = node form.Number None (Some Rattle.vd_given.specs.declared.numbers.TheConstants.INTEGER) 0 digits []
+number digits = node form.Number None (Some Rattle.vd_predefined.specs.declared.numbers.TheConstants.INTEGER) 0 digits []
 
 abbrev pub letter : ℕ → ℕ → ℕ → Forest Resolved
 letter mark position character = node form.Letter None (Some mark) position (character ∷ []) []

@@ -2,3 +2,9 @@ pub mod Agreement
 pub mod Renumbering
 pub mod Laws
 pub mod Appending
+pub mod Places
+pub mod Conversions
+pub mod PlaceLaws
+pub mod Plain
+pub mod ElaborationAgreement
+pub mod LawsOfElaboration

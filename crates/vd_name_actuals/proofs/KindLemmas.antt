@@ -7,7 +7,7 @@ use Rattle.vd_declarations.specs.declared.classes.Class.TheVariants as class
 use Rattle.vd_forest.specs.Forest.{Forest, nothing, more}
 use Rattle.vd_forms.specs.declared.form.Form.{Form}
 use Rattle.vd_forms.specs.declared.form.Form.TheVariants as form
-use Rattle.vd_name_states.specs.Designs.{At, Design}
+use Rattle.vd_name_rows.specs.Designs.{At, Design}
 use Rattle.vd_naming.specs.Associations.{is_open}
 use Rattle.vd_naming.specs.Actuals.{Known, outcome_for}
 use Rattle.vd_name_actuals.specs.Kinds.{by_class}

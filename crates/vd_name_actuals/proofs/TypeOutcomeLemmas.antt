@@ -5,15 +5,15 @@ use Rattle.vd_bytes.specs.declared.places.Place.{Place}
 use Rattle.vd_forest.specs.Forest.{Forest}
 use Rattle.vd_forest.specs.Store.{Holds}
 use Rattle.vd_forms.specs.declared.form.Form.{Form}
-use Rattle.vd_least.specs.Least.{lesser}
+use Rattle.vd_walks.specs.Least.{lesser}
 use Rattle.vd_overloads.specs.Interpretations.{IsNotOne}
 use Rattle.vd_resolved.specs.declared.node.Resolved.{Resolved}
-use Rattle.vd_name_states.specs.Designs.{At, Design}
+use Rattle.vd_name_rows.specs.Designs.{At, Design}
 use Rattle.vd_naming.specs.Expressions.{unresolved, mark_readings}
 use Rattle.vd_naming.specs.Actuals.{type_outcome}
-use Rattle.vd_name_reading.proofs.ReadLemmas.{left_out, refused_whole_list}
-use Rattle.vd_name_outcomes.specs.Made.{IsMade}
-use Rattle.vd_name_outcomes.specs.declared.made.Made.{Made}
+use Rattle.vd_name_expressions.proofs.ReadLemmas.{left_out, refused_whole_list}
+use Rattle.vd_name_entering.specs.Made.{IsMade}
+use Rattle.vd_name_entering.specs.declared.made.Made.{Made}
 use Rattle.vd_name_actuals.specs.Kinds.{no_type_at, pieces_at}
 
 pub no_mark_made : (store : List (Forest Resolved)) (at : At) (d : Design) (place : Place) (tree : Forest Form) (made : Made) (pieces refused : Option Refused)

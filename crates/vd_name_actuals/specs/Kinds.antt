@@ -6,10 +6,10 @@ use Rattle.vd_declarations.specs.declared.classes.Class.{Class}
 use Rattle.vd_declarations.specs.declared.classes.Class.TheVariants as class
 use Rattle.vd_forest.specs.Forest.{Forest}
 use Rattle.vd_forms.specs.declared.form.Form.{Form}
-use Rattle.vd_given.specs.declared.numbers.TheConstants.{BOOLEAN}
+use Rattle.vd_predefined.specs.declared.numbers.TheConstants.{BOOLEAN}
 use Rattle.vd_refusals.specs.Refusals.{first_refusal}
 use Rattle.vd_states.specs.declared.states.Want.TheVariants as want
-use Rattle.vd_name_states.specs.Designs.{At, Design, Outcome, sight}
+use Rattle.vd_name_rows.specs.Designs.{At, Design, Outcome, sight}
 use Rattle.vd_naming.specs.Pieces.{refused_pieces}
 use Rattle.vd_naming.specs.Actuals.{Known, type_outcome, function_outcome, constant_outcome, no_type}
 

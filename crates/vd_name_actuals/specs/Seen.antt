@@ -1,5 +1,5 @@
 -- What is known of the generics of an instance, in words of contracts.
-use Rattle.vd_sights.specs.Sights.{sight_from}
+use Rattle.vd_visible.specs.Sights.{sight_from}
 use Rattle.vd_naming.specs.Actuals.{Known}
 use Rattle.vd_name_actuals.specs.declared.known.Known as code
 

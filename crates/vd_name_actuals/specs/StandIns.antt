@@ -1,6 +1,6 @@
 -- What is known of each number among the generics of an instance and their actuals.
 use Rattle.std.specs.Prelude.{ℕ, List}
-use Rattle.vd_name_states.specs.declared.at.Actual.{Actual}
+use Rattle.vd_name_rows.specs.declared.at.Actual.{Actual}
 use Rattle.vd_naming.specs.Associations.{is_among_numbers}
 use Rattle.vd_naming.specs.Actuals.{actual_of}
 use Rattle.vd_name_actuals.specs.declared.stand_ins.StandIn.{StandIn}

@@ -1,15 +1,15 @@
 //! What is known of the generics of an instance.
 
 ghost use Rattle.std.specs.Prelude.{◌≡◌};
-ghost use Rattle.vd_sights.specs.Sights.{sight_from};
+ghost use Rattle.vd_visible.specs.Sights.{sight_from};
 ghost use Rattle.vd_naming.specs.Expressions.{type_declared as type_of_declared};
 ghost use Rattle.vd_naming.specs.Actuals.{type_in, mark_in};
 ghost use Rattle.vd_name_actuals.specs.Seen.{seen_known};
 
 use crate::stand_ins::StandIns;
 use vd_declarations::{DeclId, TypeId};
-use vd_name_states::Names;
-use vd_sights::Surroundings;
+use vd_name_rows::Names;
+use vd_visible::Surroundings;
 
 /// What is known of the generics of an instance: the design, the place, and the generics with the actuals of those that are types.
 #[derive(Clone, Copy)]

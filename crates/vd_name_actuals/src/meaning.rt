@@ -1,7 +1,7 @@
 //! What an actual means that is the name of a function, or an operator symbol.
 
 ghost use Rattle.std.specs.Prelude.{◌≡◌, Some, IfOk};
-ghost use Rattle.vd_sights.specs.Sights.{sight_from};
+ghost use Rattle.vd_visible.specs.Sights.{sight_from};
 ghost use Rattle.vd_naming.specs.Selected.{some_or};
 ghost use Rattle.vd_ways.specs.Ways.{symbol_name as name_of_symbol};
 ghost use Rattle.vd_naming.specs.Actuals.{are_selections as all_selections, head_meant as meant_by_head, behind_meant as meant_behind_pieces, name_meant as meant_by_name, actual_meant as meant_by_actual, declarations_meant as meant_declarations};
@@ -11,7 +11,7 @@ use vd_declarations::DeclId;
 use vd_forest::Cursor;
 use vd_forms::Form;
 use vd_naming::{Meant, meant_by_selection, visible_meant};
-use vd_sights::Surroundings;
+use vd_visible::Surroundings;
 use vd_ways::names::symbol_name;
 
 /// Whether all pieces stand behind points.

@@ -4,10 +4,10 @@ ghost use Rattle.std.specs.Prelude.{IfOk};
 ghost use Rattle.vd_forest.specs.Forest.{nothing, with_next};
 ghost use Rattle.vd_forest.specs.Store.{Extends};
 ghost use Rattle.std.specs.Prelude.{◌≡◌};
-ghost use Rattle.vd_sights.specs.Sights.{sight_from, class_of};
+ghost use Rattle.vd_visible.specs.Sights.{sight_from, class_of};
 ghost use Rattle.vd_naming.specs.Associations.{is_open as stands_open};
 ghost use Rattle.vd_naming.specs.Actuals.{type_outcome as outcome_of_type, function_outcome as outcome_of_function, constant_outcome as outcome_of_constant, outcome_for as outcome_of};
-ghost use Rattle.vd_name_outcomes.specs.Made.{IsMade};
+ghost use Rattle.vd_name_entering.specs.Made.{IsMade};
 ghost use Rattle.vd_name_actuals.specs.Kinds.{by_class, no_type_at, pieces_at};
 ghost use Rattle.vd_name_actuals.specs.Seen.{seen_known};
 
@@ -21,17 +21,16 @@ use vd_bytes::{Place, Refused};
 use vd_declarations::{Class, DeclId, TypeId};
 use vd_forest::{Cursor, Store};
 use vd_forms::Form;
-use vd_given::numbers::BOOLEAN;
-use vd_least::lesser;
-use vd_name_expressions::where_known;
-use vd_name_outcomes::Made;
-use vd_name_reading::only_mark;
-use vd_name_states::{At, Names};
+use vd_name_entering::Made;
+use vd_name_expressions::{only_mark, where_known};
+use vd_name_rows::{At, Names};
 use vd_naming::{broken_if, refused_pieces, unresolved};
 use vd_overloads::Wanted;
+use vd_predefined::numbers::BOOLEAN;
 use vd_refusals::first_refusal;
 use vd_resolved::Resolved;
 use vd_states::Want;
+use vd_walks::lesser;
 
 /// What is refused of an actual that has to be a mark, and isn't.
 fn refused_as_type(

@@ -3,7 +3,7 @@
 ghost use Rattle.std.specs.Prelude.{◌≡◌, IfOk};
 ghost use Rattle.std.specs.List.{list_all};
 ghost use Rattle.vd_regions.specs.Homographs.{same_type as are_same, same_types as are_same_list};
-ghost use Rattle.vd_sights.specs.Sights.{sight_from};
+ghost use Rattle.vd_visible.specs.Sights.{sight_from};
 ghost use Rattle.vd_naming.specs.Paths.{is_some};
 ghost use Rattle.vd_naming.specs.Actuals.{profile as profile_of, profile_in as profile_as_known, functions_among as functions_of, of_profile as with_profile, only_one as only, function_among as only_function};
 ghost use Rattle.vd_name_actuals.specs.Seen.{seen_known};
@@ -11,8 +11,8 @@ ghost use Rattle.vd_name_actuals.specs.Seen.{seen_known};
 use crate::known::Known;
 use std::alloc::{AllocError, Global};
 use vd_declarations::{DeclId, TypeId};
-use vd_sights::Surroundings;
-use vd_sights::roles::{Role, role_of};
+use vd_visible::Surroundings;
+use vd_visible::roles::{Role, role_of};
 
 /// The profile of a function.
 fn profile(

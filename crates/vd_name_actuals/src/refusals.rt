@@ -1,13 +1,13 @@
 //! Actuals that are refused: what is named is of another kind than the generic, or no such thing is visible.
 
 ghost use Rattle.std.specs.Prelude.{◌≡◌, IfOk};
-ghost use Rattle.vd_given.specs.declared.numbers.TheConstants.{BOOLEAN};
-ghost use Rattle.vd_least.specs.Least.{lesser as lesser_refusal};
+ghost use Rattle.vd_predefined.specs.declared.numbers.TheConstants.{BOOLEAN};
+ghost use Rattle.vd_walks.specs.Least.{lesser as lesser_refusal};
 ghost use Rattle.vd_refusals.specs.Refusals.{first_refusal as first_refused};
 ghost use Rattle.vd_regions.specs.Scopes.{declaration_at};
 ghost use Rattle.vd_states.specs.declared.states.Want.TheVariants as want;
-ghost use Rattle.vd_name_states.specs.Refusals.{broken};
-ghost use Rattle.vd_sights.specs.Sights.{sight_from};
+ghost use Rattle.vd_name_rows.specs.Refusals.{broken};
+ghost use Rattle.vd_visible.specs.Sights.{sight_from};
 ghost use Rattle.vd_naming.specs.Actuals.{of_other_kind as refused_kind, no_type as refused_type, is_written as declares_body, is_unfit as cannot_stand, refused_count as refused_by_count, refused_functions as refused_among, refused_function as refused_actual, is_mark_name as names_mark};
 ghost use Rattle.vd_name_actuals.specs.Seen.{seen_known};
 
@@ -18,15 +18,15 @@ use vd_bytes::{Place, Refused};
 use vd_declarations::{Class, DeclId, TypeId};
 use vd_forest::Cursor;
 use vd_forms::Form;
-use vd_given::numbers::BOOLEAN;
-use vd_least::lesser;
-use vd_name_reading::edges::is_edge_function;
-use vd_name_reading::marks::first_place;
-use vd_name_states::Names;
+use vd_name_expressions::edges::is_edge_function;
+use vd_name_expressions::marks::first_place;
+use vd_name_rows::Names;
 use vd_naming::{Meant, broken_if};
+use vd_predefined::numbers::BOOLEAN;
 use vd_refusals::{Seen, first_refusal, path_seen};
-use vd_sights::Surroundings;
 use vd_states::Want;
+use vd_visible::Surroundings;
+use vd_walks::lesser;
 
 /// A refusal, with the rule on actuals beside it where a name means something of another kind.
 pub(crate) fn of_other_kind(place: Place, refused: Refused) -> Option<Refused>

@@ -11,7 +11,7 @@ use std::alloc::{AllocError, Global};
 use std::collections::HashMap;
 use std::marker::Model;
 use vd_declarations::DeclId;
-use vd_name_states::Actual;
+use vd_name_rows::Actual;
 
 /// Whether a declaration is a generic of what is instantiated, and its first actual.
 #[derive(Clone, Copy)]

@@ -3,7 +3,7 @@
 ghost use Rattle.std.specs.Prelude.{◌≡◌, ◌≤◌, true, IfOk, Some, None, length};
 ghost use Rattle.vd_forest.specs.Forest.{nothing, more};
 ghost use Rattle.vd_forest.specs.Store.{at, Holds, Extends};
-ghost use Rattle.vd_sights.specs.Sights.{sight_from};
+ghost use Rattle.vd_visible.specs.Sights.{sight_from};
 ghost use Rattle.vd_naming.specs.Expressions.{resolved, unresolved as with_nothing_named};
 ghost use Rattle.vd_naming.specs.Paths.{one_that as only_that};
 ghost use Rattle.vd_naming.specs.Actuals.{pieces_named as pieces_with, function_named as name_with};
@@ -14,10 +14,10 @@ use std::alloc::{AllocError, Global};
 use vd_declarations::DeclId;
 use vd_forest::{Cursor, Opened, Store};
 use vd_forms::Form;
-use vd_name_outcomes::add_node;
+use vd_name_entering::add_node;
 use vd_naming::{Meant, meant_by_selection, unresolved};
 use vd_resolved::Resolved;
-use vd_sights::Surroundings;
+use vd_visible::Surroundings;
 
 /// The one declaration that is meant.
 fn one_meant(meant: &Meant) -> Option<DeclId>

@@ -5,7 +5,7 @@ use Rattle.vd_forest.specs.Forest.{Forest, more, turned}
 use Rattle.vd_forest.specs.Store.{at, Holds}
 use Rattle.vd_forms.specs.declared.form.Form.{Form}
 use Rattle.vd_resolved.specs.declared.node.Resolved.{Resolved}
-use Rattle.vd_name_states.specs.Designs.{Design}
+use Rattle.vd_name_rows.specs.Designs.{Design}
 use Rattle.vd_naming.specs.Expressions.{resolved, unresolved}
 use Rattle.vd_naming.specs.Views.{element_named, names_of_elements}
 

@@ -1,10 +1,10 @@
 -- Clauses of contexts that stand once more where those are named.
 use Rattle.std.proofs.Common.{◌≡◌, ℕ, List, [], ◌∷◌, Some, slice_index_or, refl, ap, ◌∙◌}
 use Rattle.vd_regions.specs.Scopes.{declaration_at, no_region, region_at, with_clauses}
-use Rattle.vd_name_states.specs.Designs.{Design, with_scopes}
-use Rattle.vd_name_states.specs.Entering.{entering}
-use Rattle.vd_name_states.specs.Members.{declared_in}
-use Rattle.vd_name_states.specs.declared.sorts.Sort.TheVariants as sort
+use Rattle.vd_name_rows.specs.Designs.{Design, with_scopes}
+use Rattle.vd_name_rows.specs.Entering.{entering}
+use Rattle.vd_name_rows.specs.Members.{declared_in}
+use Rattle.vd_name_rows.specs.declared.sorts.Sort.TheVariants as sort
 use Rattle.vd_naming.specs.Units.{entering_libraries, clauses_again}
 
 -- no region is changed where libraries are entered

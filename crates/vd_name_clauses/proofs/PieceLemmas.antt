@@ -4,7 +4,7 @@ use Rattle.vd_bytes.specs.declared.places.Place.{Place}
 use Rattle.vd_forest.specs.Forest.{Forest, nothing, more, form_of, text_of}
 use Rattle.vd_forms.specs.declared.form.Form.{Form}
 use Rattle.vd_forms.specs.declared.form.Form.TheVariants as form
-use Rattle.vd_sights.specs.Kinds.{kind_of}
+use Rattle.vd_visible.specs.Kinds.{kind_of}
 use Rattle.vd_ways.specs.Ways.{selected_name}
 use Rattle.vd_naming.specs.Ports.{last_text}
 use Rattle.vd_naming.specs.Units.{last_piece, is_all}

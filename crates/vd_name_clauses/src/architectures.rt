@@ -6,16 +6,15 @@ ghost use Rattle.vd_forest.specs.Store.{Holds, Extends};
 ghost use Rattle.vd_naming.specs.Expressions.{resolved};
 ghost use Rattle.vd_naming.specs.Ports.{not_in_front as stands_behind, default_architecture as default_refused, architecture_named as named_architecture, refused_architecture as architecture_refused, instance_architecture as instance_architecture_step};
 ghost use Rattle.vd_naming.specs.Units.{region_inside as inside_of_declaration};
-ghost use Rattle.vd_name_outcomes.specs.Made.{IsMade};
+ghost use Rattle.vd_name_entering.specs.Made.{IsMade};
 
 use std::alloc::{AllocError, Global};
 use vd_bytes::{Place, Refused};
 use vd_declarations::{DeclId, RegionId};
 use vd_forest::{Opened, Store};
 use vd_forms::Form;
-use vd_name_lookup::{Units, found_in, region_inside};
-use vd_name_outcomes::{Made, add_node};
-use vd_name_states::{At, Names, Sort};
+use vd_name_entering::{Made, Units, add_node, found_in, region_inside};
+use vd_name_rows::{At, Names, Sort};
 use vd_naming::broken_if;
 use vd_resolved::Resolved;
 

@@ -4,20 +4,18 @@ ghost use Rattle.std.specs.Prelude.{◌≡◌, IfOk, OnOk};
 ghost use Rattle.vd_forest.specs.Store.{Holds, Extends};
 ghost use Rattle.vd_naming.specs.Units.{region_inside as inside_of_declaration};
 ghost use Rattle.vd_naming.specs.Views.{element_named as named_element, missing_element as element_missing, names_of_elements, missing_elements, element_names as element_names_step};
-ghost use Rattle.vd_name_outcomes.specs.Made.{IsMade};
+ghost use Rattle.vd_name_entering.specs.Made.{IsMade};
 
 use std::alloc::{AllocError, Global};
 use vd_bytes::{Place, Refused};
 use vd_declarations::{DeclId, RegionId, TypeId};
 use vd_forest::{Cursor, Opened, Store};
 use vd_forms::Form;
-use vd_least::lesser;
-use vd_name_labels::add_named;
-use vd_name_lookup::found_inside;
-use vd_name_outcomes::{Made, add_node};
-use vd_name_states::{At, Names, Sort};
+use vd_name_entering::{Made, add_named, add_node, found_inside};
+use vd_name_rows::{At, Names, Sort};
 use vd_naming::broken_if;
 use vd_resolved::Resolved;
+use vd_walks::lesser;
 
 /// The region of the elements of a record type, where there is one.
 fn elements_inside(names: &Names, viewed: &Option<TypeId>) -> Option<RegionId>
@@ -64,7 +62,7 @@ struct Listed {
 }
 
 /// The names of some elements of a record type.
-#[tactic(auto, using(crate::proofs::ElementLemmas::element_added, vd_least::proofs::OrderLaws::lesser_brackets, vd_forest::proofs::StoreLemmas::growing))]
+#[tactic(auto, using(crate::proofs::ElementLemmas::element_added, vd_walks::proofs::OrderLaws::lesser_brackets, vd_forest::proofs::StoreLemmas::growing))]
 fn elements(
     alloc: Global,
     names: &Names,

@@ -6,7 +6,7 @@ ghost use Rattle.vd_forest.specs.Store.{Extends};
 ghost use Rattle.vd_naming.specs.Paths.{refused_path};
 ghost use Rattle.vd_naming.specs.Ports.{instance_entity as instance_entity_step};
 ghost use Rattle.vd_naming.specs.Units.{no_unit, entity_word as entity_word_step};
-ghost use Rattle.vd_name_outcomes.specs.Made.{IsMade};
+ghost use Rattle.vd_name_entering.specs.Made.{IsMade};
 
 use crate::pieces::last_text;
 use std::alloc::{AllocError, Global};
@@ -14,10 +14,8 @@ use vd_bytes::{Place, Refused};
 use vd_declarations::DeclId;
 use vd_forest::{Opened, Store};
 use vd_forms::Form;
-use vd_name_labels::named_at;
-use vd_name_lookup::unit_named;
-use vd_name_outcomes::{Made, add_node};
-use vd_name_states::{At, Names, Sort, Word};
+use vd_name_entering::{Made, add_node, fitting_name, unit_named};
+use vd_name_rows::{At, Names, Sort, Word};
 use vd_naming::Fit;
 use vd_resolved::Resolved;
 
@@ -72,7 +70,7 @@ pub fn instance_entity<'a>(
         text: last_text(&node.parts),
     };
     at.word_place = node.place;
-    let found = named_at(alloc, names, at, Fit::Entity, node, out)?;
+    let found = fitting_name(alloc, names, at, Fit::Entity, node, out)?;
     at.named = found.named;
     at.mark = found.mark;
     Ok(Made {

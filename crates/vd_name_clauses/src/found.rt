@@ -3,8 +3,8 @@
 ghost use Rattle.std.specs.Prelude.{◌≡◌, None, IfOk};
 ghost use Rattle.vd_forest.specs.Forest.{nothing, more};
 ghost use Rattle.vd_forest.specs.Store.{Holds, Extends};
-ghost use Rattle.vd_sights.specs.Sights.{sight_from};
-ghost use Rattle.vd_name_states.specs.Refusals.{broken};
+ghost use Rattle.vd_visible.specs.Sights.{sight_from};
+ghost use Rattle.vd_name_rows.specs.Refusals.{broken};
 ghost use Rattle.vd_naming.specs.Paths.{named_path, one_that as only_that, rule_of as rule_by};
 ghost use Rattle.vd_naming.specs.Fits.{fits};
 
@@ -13,12 +13,11 @@ use vd_bytes::Refused;
 use vd_declarations::DeclId;
 use vd_forest::{Opened, Store};
 use vd_forms::Form;
-use vd_name_labels::add_named;
-use vd_name_outcomes::Made;
-use vd_name_states::Names;
+use vd_name_entering::{Made, add_named};
+use vd_name_rows::Names;
 use vd_naming::{Fit, Meant, one_that, rule_of};
 use vd_resolved::Resolved;
-use vd_sights::Surroundings;
+use vd_visible::Surroundings;
 
 /// What is found of a name: the declaration, and the rule that is broken where there is none.
 #[derive(Clone, Copy)]

@@ -5,11 +5,11 @@ ghost use Rattle.std.specs.List.{filter};
 ghost use Rattle.vd_forest.specs.Forest.{nothing, more};
 ghost use Rattle.vd_forest.specs.Store.{Extends};
 ghost use Rattle.vd_regions.specs.Scopes.{declaration_at};
-ghost use Rattle.vd_name_states.specs.Designs.{sight};
-ghost use Rattle.vd_name_states.specs.Refusals.{broken_if as refused_where};
+ghost use Rattle.vd_name_rows.specs.Designs.{sight};
+ghost use Rattle.vd_name_rows.specs.Refusals.{broken_if as refused_where};
 ghost use Rattle.vd_naming.specs.Generics.{meant_that as meant_of_sort, instantiated_as, generic_package as generic_package_step, generic_function as generic_function_step};
 ghost use Rattle.vd_naming.specs.Paths.{path_meant as meant_by_path, one_that as only_that, path_outside as path_from_outside, prefix_pieces, refused_path as path_refused};
-ghost use Rattle.vd_name_outcomes.specs.Made.{IsMade};
+ghost use Rattle.vd_name_entering.specs.Made.{IsMade};
 ghost use Rattle.vd_name_clauses.specs.Generics.{is_generic};
 
 use std::alloc::{AllocError, Global};
@@ -17,14 +17,13 @@ use vd_bytes::{Place, Refused};
 use vd_declarations::{Class, DeclId};
 use vd_forest::{Opened, Store};
 use vd_forms::Form;
-use vd_least::lesser;
-use vd_name_labels::add_named;
-use vd_name_outcomes::Made;
-use vd_name_states::{At, Names};
+use vd_name_entering::{Made, add_named};
+use vd_name_rows::{At, Names};
 use vd_naming::{
     Fit, Meant, broken_if, one_that, path_meant, path_outside, prefix_outside, refused_path,
 };
 use vd_resolved::Resolved;
+use vd_walks::lesser;
 
 /// What can be instantiated: a package or a function with generics.
 #[derive(Clone, Copy)]

@@ -3,17 +3,16 @@
 ghost use Rattle.std.specs.Prelude.{◌≡◌, Some, IfOk, OnOk};
 ghost use Rattle.vd_forest.specs.Store.{Extends};
 ghost use Rattle.vd_naming.specs.Units.{library_named as library_of_name, library_as as library_clause, library_word as library_word_step};
-ghost use Rattle.vd_name_outcomes.specs.Made.{IsMade};
+ghost use Rattle.vd_name_entering.specs.Made.{IsMade};
 
 use std::alloc::{AllocError, Global};
 use vd_bytes::Refused;
 use vd_declarations::{Class, DeclId};
 use vd_forest::{Opened, Store};
 use vd_forms::Form;
-use vd_given::numbers::{IEEE, STD, WORK};
-use vd_name_entering::{declaration_of, enter};
-use vd_name_outcomes::{Made, add_node};
-use vd_name_states::{At, Names};
+use vd_name_entering::{Made, add_node, declaration_of, enter};
+use vd_name_rows::{At, Names};
+use vd_predefined::numbers::{IEEE, STD, WORK};
 use vd_resolved::Resolved;
 
 /// The library of a name.

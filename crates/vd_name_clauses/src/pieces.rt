@@ -1,7 +1,7 @@
 //! Pieces of selected names.
 
 ghost use Rattle.std.specs.Prelude.{◌≡◌, IfOk};
-ghost use Rattle.vd_sights.specs.Kinds.{kind_of as kind_at};
+ghost use Rattle.vd_visible.specs.Kinds.{kind_of as kind_at};
 ghost use Rattle.vd_ways.specs.Ways.{selected_name as name_selected};
 ghost use Rattle.vd_naming.specs.Ports.{last_text as text_of_last};
 ghost use Rattle.vd_naming.specs.Units.{last_piece, is_all as names_all};
@@ -11,7 +11,7 @@ use std::alloc::{AllocError, Global};
 use vd_bytes::Text;
 use vd_forest::Cursor;
 use vd_forms::Form;
-use vd_sights::kinds::{Kind, kind_of};
+use vd_visible::kinds::{Kind, kind_of};
 use vd_ways::names::symbol_name;
 use vd_ways::values::letter_name;
 

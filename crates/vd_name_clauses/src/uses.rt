@@ -4,11 +4,11 @@ ghost use Rattle.std.specs.Prelude.{◌≡◌, Some, None, IfOk, OnOk, if◌then
 ghost use Rattle.vd_forest.specs.Forest.{nothing, more};
 ghost use Rattle.vd_forest.specs.Store.{Extends};
 ghost use Rattle.vd_regions.specs.Scopes.{declaration_at};
-ghost use Rattle.vd_name_states.specs.Designs.{sight};
-ghost use Rattle.vd_name_states.specs.Refusals.{broken_if as refused_where};
+ghost use Rattle.vd_name_rows.specs.Designs.{sight};
+ghost use Rattle.vd_name_rows.specs.Refusals.{broken_if as refused_where};
 ghost use Rattle.vd_naming.specs.Paths.{path_meant, path_outside as path_from_outside, prefix_pieces, one_that as only_that, rule_of as rule_by, is_package};
 ghost use Rattle.vd_naming.specs.Units.{last_piece, is_all as names_all, missing_name, used_name, with_used, used as used_package, use_name as use_name_step};
-ghost use Rattle.vd_name_outcomes.specs.Made.{IsMade};
+ghost use Rattle.vd_name_entering.specs.Made.{IsMade};
 
 use crate::found::{Found, found_of, unknown_name};
 use crate::pieces::{is_all, last_name};
@@ -17,12 +17,11 @@ use vd_bytes::{Refused, Text};
 use vd_declarations::{DeclId, RegionId};
 use vd_forest::{Opened, Store};
 use vd_forms::Form;
-use vd_least::lesser;
-use vd_name_labels::add_named;
-use vd_name_outcomes::Made;
-use vd_name_states::{At, Names};
+use vd_name_entering::{Made, add_named};
+use vd_name_rows::{At, Names};
 use vd_naming::{Fit, broken_if, path_outside, prefix_meant};
 use vd_resolved::Resolved;
+use vd_walks::lesser;
 
 /// The package that a name has in front of its last piece.
 fn package_of(

@@ -5,7 +5,7 @@ use Rattle.vd_forest.specs.Forest.{Forest, nothing, more, next_of, turned, with_
 use Rattle.vd_forest.specs.Store.{at, Holds}
 use Rattle.vd_forms.specs.declared.form.Form.{Form}
 use Rattle.vd_resolved.specs.declared.node.Resolved.{Resolved}
-use Rattle.vd_name_states.specs.Entering.{numbered}
+use Rattle.vd_name_rows.specs.Entering.{numbered}
 use Rattle.vd_naming.specs.Endings.{literals_numbered, with_literals}
 
 -- the first node with its number goes before those that have theirs

@@ -4,14 +4,14 @@ ghost use Rattle.std.specs.Prelude.{◌≤◌, IfOk, length};
 ghost use Rattle.vd_forest.specs.Store.{Extends};
 ghost use Rattle.vd_naming.specs.Endings.{nothing_ends as nothing_declared, first_ends as first_declared, typed_ends as typed_node};
 ghost use Rattle.vd_naming.specs.Functions.{clause_ends as clause_ended};
-ghost use Rattle.vd_name_outcomes.specs.Ended.{seen_ended};
-ghost use Rattle.vd_name_outcomes.specs.Made.{IsMade};
+ghost use Rattle.vd_name_entering.specs.Ended.{seen_ended};
+ghost use Rattle.vd_name_entering.specs.Made.{IsMade};
 
 use std::alloc::AllocError;
 use vd_declarations::DeclId;
 use vd_forest::Store;
-use vd_name_outcomes::{Ended, Made, finished};
-use vd_name_states::Names;
+use vd_name_entering::{Ended, Made, finished};
+use vd_name_rows::Names;
 use vd_resolved::Resolved;
 
 /// A form at whose end nothing is declared.

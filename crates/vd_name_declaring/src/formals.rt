@@ -1,7 +1,7 @@
 //! Ports and generics, as their instances see them. (IEEE 1076, interface object declarations)
 
 ghost use Rattle.std.specs.Prelude.{◌≡◌, OnOk};
-ghost use Rattle.vd_name_states.specs.Entering.{words_of};
+ghost use Rattle.vd_name_rows.specs.Entering.{words_of};
 ghost use Rattle.vd_naming.specs.Endings.{form_at as form_of_part, mode_of as mode_by, needs_value as is_value_needed, formal_of as formal_by, with_formals, with_formals_of};
 
 use crate::numbers::number_behind;
@@ -10,7 +10,7 @@ use vd_declarations::{Class, DeclId};
 use vd_forest::Cursor;
 use vd_forms::Form;
 use vd_name_entering::note_formal;
-use vd_name_states::{Formal, Names};
+use vd_name_rows::{Formal, Names};
 
 /// The form of the part of a number. That of a part that isn't there is that of one that is left out.
 fn form_at(number: u32, parts: &Cursor<'_, Form>) -> Form

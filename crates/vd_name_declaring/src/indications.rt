@@ -5,18 +5,18 @@ ghost use Rattle.vd_forest.specs.Forest.{Forest};
 ghost use Rattle.vd_forest.specs.Store.{Extends};
 ghost use Rattle.vd_resolved.specs.declared.node.Resolved.{Resolved};
 ghost use Rattle.vd_naming.specs.Endings.{is_bounded as has_bounds_of, can_be_narrower as may_be_narrower, misfits as indication_misfits, indication_ends as indication_ended};
-ghost use Rattle.vd_name_outcomes.specs.Ended.{seen_ended};
-ghost use Rattle.vd_name_outcomes.specs.Made.{IsMade};
+ghost use Rattle.vd_name_entering.specs.Ended.{seen_ended};
+ghost use Rattle.vd_name_entering.specs.Made.{IsMade};
 
 use std::alloc::AllocError;
 use vd_declarations::{Class, DeclId};
 use vd_forest::{Cursor, Store};
 use vd_forms::Form;
-use vd_name_outcomes::{Ended, Made, finished, form_of_next};
-use vd_name_states::Names;
+use vd_name_entering::{Ended, Made, finished, form_of_next};
+use vd_name_rows::Names;
 use vd_naming::broken_if;
 use vd_resolved::Resolved;
-use vd_sights::types::{element_of, is_scalar};
+use vd_visible::types::{element_of, is_scalar};
 
 /// Whether a type or subtype has bounds. What isn't known counts as one that has.
 pub fn is_bounded(names: &Names, named: Option<DeclId>) -> bool

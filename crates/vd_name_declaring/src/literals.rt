@@ -3,7 +3,7 @@
 ghost use Rattle.std.specs.Prelude.{◌≤◌, ◌<◌, IfOk, length};
 ghost use Rattle.vd_forest.specs.Forest.{with_next};
 ghost use Rattle.vd_forest.specs.Store.{at, Holds, Extends};
-ghost use Rattle.vd_name_states.specs.Entering.{numbered as with_numbers};
+ghost use Rattle.vd_name_rows.specs.Entering.{numbered as with_numbers};
 ghost use Rattle.vd_naming.specs.Endings.{literals_numbered as numbered_literals, with_literals as numbered_in_definition};
 
 use crate::numbers::number_behind;

@@ -2,11 +2,11 @@
 
 ghost use Rattle.std.specs.Prelude.{◌≤◌, IfOk, length};
 ghost use Rattle.vd_forest.specs.Store.{Extends};
-ghost use Rattle.vd_name_states.specs.Entering.{words_of};
+ghost use Rattle.vd_name_rows.specs.Entering.{words_of};
 ghost use Rattle.vd_name_entering.specs.Entered.{IsEntered};
 ghost use Rattle.vd_naming.specs.Endings.{entering_objects, objects_end as objects_declared};
-ghost use Rattle.vd_name_outcomes.specs.Ended.{seen_ended};
-ghost use Rattle.vd_name_outcomes.specs.Made.{IsMade};
+ghost use Rattle.vd_name_entering.specs.Ended.{seen_ended};
+ghost use Rattle.vd_name_entering.specs.Made.{IsMade};
 
 use crate::formals::note_formals_of;
 use std::alloc::{AllocError, Global};
@@ -14,9 +14,8 @@ use vd_bytes::Refused;
 use vd_declarations::{Class, RegionId, TypeId};
 use vd_forest::{Cursor, Store};
 use vd_forms::Form;
-use vd_name_entering::enter_words;
-use vd_name_outcomes::{Ended, Made, finished};
-use vd_name_states::Names;
+use vd_name_entering::{Ended, Made, enter_words, finished};
+use vd_name_rows::Names;
 use vd_resolved::Resolved;
 
 /// Enters objects of a class and a type, with the names of a list, declared by a form with these parts.

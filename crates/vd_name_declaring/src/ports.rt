@@ -4,8 +4,8 @@ ghost use Rattle.std.specs.Prelude.{◌≤◌, IfOk, length};
 ghost use Rattle.vd_forest.specs.Store.{Extends};
 ghost use Rattle.vd_name_entering.specs.Entered.{IsEntered};
 ghost use Rattle.vd_naming.specs.Endings.{entering_ports, ports_end as ports_declared};
-ghost use Rattle.vd_name_outcomes.specs.Ended.{seen_ended};
-ghost use Rattle.vd_name_outcomes.specs.Made.{IsMade};
+ghost use Rattle.vd_name_entering.specs.Ended.{seen_ended};
+ghost use Rattle.vd_name_entering.specs.Made.{IsMade};
 
 use crate::objects::enter_objects;
 use std::alloc::{AllocError, Global};
@@ -13,13 +13,13 @@ use vd_bytes::Refused;
 use vd_declarations::{Class, RegionId};
 use vd_forest::{Cursor, Store};
 use vd_forms::Form;
-use vd_least::lesser;
-use vd_name_outcomes::{Ended, Made, finished};
-use vd_name_states::Names;
+use vd_name_entering::{Ended, Made, finished};
+use vd_name_rows::Names;
 use vd_resolved::Resolved;
+use vd_walks::lesser;
 
 /// Enters the ports of a clause, each list with the type at its node.
-#[tactic(auto, using(vd_least::proofs::OrderLaws::lesser_brackets, vd_least::proofs::OrderLaws::lesser_right))]
+#[tactic(auto, using(vd_walks::proofs::OrderLaws::lesser_brackets, vd_walks::proofs::OrderLaws::lesser_right))]
 pub fn enter_ports(
     alloc: Global,
     names: &mut Names,

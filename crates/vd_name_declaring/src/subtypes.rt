@@ -3,12 +3,12 @@
 ghost use Rattle.std.specs.Prelude.{◌≡◌, ◌≤◌, ◌||◌, IfOk, length};
 ghost use Rattle.vd_forest.specs.Store.{Extends};
 ghost use Rattle.vd_name_entering.specs.Entered.{IsEntered};
-ghost use Rattle.vd_name_states.specs.Entering.{declaration_of, entering};
-ghost use Rattle.vd_name_states.specs.Members.{next_number};
-ghost use Rattle.vd_name_states.specs.Noting.{with_bounds};
+ghost use Rattle.vd_name_rows.specs.Entering.{declaration_of, entering};
+ghost use Rattle.vd_name_rows.specs.Members.{next_number};
+ghost use Rattle.vd_name_rows.specs.Noting.{with_bounds};
 ghost use Rattle.vd_naming.specs.Endings.{has_index_constraint as is_constrained, is_bounded as has_bounds_of, or_zero, subtype_ends as subtype_declared};
-ghost use Rattle.vd_name_outcomes.specs.Ended.{seen_ended};
-ghost use Rattle.vd_name_outcomes.specs.Made.{IsMade};
+ghost use Rattle.vd_name_entering.specs.Ended.{seen_ended};
+ghost use Rattle.vd_name_entering.specs.Made.{IsMade};
 
 use crate::indications::is_bounded;
 use crate::types::{declaration_or_zero, note_bounds};
@@ -18,9 +18,8 @@ use vd_bytes::Refused;
 use vd_declarations::{Class, DeclId};
 use vd_forest::{Cursor, Store};
 use vd_forms::Form;
-use vd_name_entering::enter;
-use vd_name_outcomes::{Ended, Made, finished, form_of_next};
-use vd_name_states::Names;
+use vd_name_entering::{Ended, Made, enter, finished, form_of_next};
+use vd_name_rows::Names;
 use vd_resolved::Resolved;
 
 /// Whether the indication of a subtype has an index constraint.

@@ -4,13 +4,13 @@ ghost use Rattle.std.specs.Prelude.{◌≡◌, ◌≤◌, Some, None, IfOk, OnOk
 ghost use Rattle.vd_forest.specs.Forest.{next_of, parts_of};
 ghost use Rattle.vd_forest.specs.Store.{at, Extends};
 ghost use Rattle.vd_name_entering.specs.Entered.{IsEntered};
-ghost use Rattle.vd_name_states.specs.Entering.{words_of, declaration_of};
-ghost use Rattle.vd_name_states.specs.Noting.{with_bounds};
-ghost use Rattle.vd_name_states.specs.Members.{declared_in};
+ghost use Rattle.vd_name_rows.specs.Entering.{words_of, declaration_of};
+ghost use Rattle.vd_name_rows.specs.Noting.{with_bounds};
+ghost use Rattle.vd_name_rows.specs.Members.{declared_in};
 ghost use Rattle.vd_naming.specs.Expressions.{mark_of as mark_of_first};
 ghost use Rattle.vd_naming.specs.Endings.{closed, or_zero, has_range as has_index_range, entering_type, entering_enumeration, entering_array, entering_definition, type_ends as type_declared};
-ghost use Rattle.vd_name_outcomes.specs.Ended.{seen_ended};
-ghost use Rattle.vd_name_outcomes.specs.Made.{IsMade};
+ghost use Rattle.vd_name_entering.specs.Ended.{seen_ended};
+ghost use Rattle.vd_name_entering.specs.Made.{IsMade};
 
 use crate::literals::with_literals;
 use crate::words::declared_word;
@@ -19,11 +19,10 @@ use vd_bytes::Refused;
 use vd_declarations::{Class, DeclId, Declaration, Declarations, RegionId, TypeId};
 use vd_forest::{Cursor, Store};
 use vd_forms::Form;
-use vd_least::lesser;
-use vd_name_entering::{close, enter, enter_words};
-use vd_name_outcomes::{Ended, Made, finished, form_of_next};
-use vd_name_states::{Names, Note, Sort};
+use vd_name_entering::{Ended, Made, close, enter, enter_words, finished, form_of_next};
+use vd_name_rows::{Names, Note, Sort};
 use vd_resolved::Resolved;
+use vd_walks::lesser;
 
 /// Enters a type, with the operators that it brings.
 pub fn enter_type(

@@ -1,12 +1,11 @@
 //! What is declared under the name that was read last.
 
 ghost use Rattle.std.specs.Prelude.{◌≡◌, IfOk};
-ghost use Rattle.vd_name_states.specs.Entering.{declaration_of};
+ghost use Rattle.vd_name_rows.specs.Entering.{declaration_of};
 
 use std::alloc::{AllocError, Global};
 use vd_declarations::{Class, Declaration, TypeId};
-use vd_name_entering::named_at;
-use vd_name_outcomes::Ended;
+use vd_name_entering::{Ended, named_at};
 
 /// A declaration of a class and a type under the name that was read last in the parts of a node.
 pub fn declared_word(

@@ -1,10 +1,10 @@
 -- One declaration, and then others.
 use Rattle.std.proofs.Common.{◌≡◌, Option, ap, ◌∙◌}
 use Rattle.vd_bytes.specs.declared.answers.Refused.{Refused}
-use Rattle.vd_least.specs.Least.{lesser}
-use Rattle.vd_least.proofs.OrderLaws.{lesser_brackets}
-use Rattle.vd_name_states.specs.Designs.{Design}
-use Rattle.vd_name_states.specs.Entering.{Entering, then_entering}
+use Rattle.vd_walks.specs.Least.{lesser}
+use Rattle.vd_walks.proofs.OrderLaws.{lesser_brackets}
+use Rattle.vd_name_rows.specs.Designs.{Design}
+use Rattle.vd_name_rows.specs.Entering.{Entering, then_entering}
 use Rattle.vd_name_entering.specs.Entered.{IsEntered}
 
 module _ (d : Design) (refused : Option Refused) (x : Entering) (others : Design → Entering) (is : IsEntered d refused x) where

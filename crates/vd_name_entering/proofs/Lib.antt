@@ -1,1 +1,4 @@
+pub mod JoiningLemmas
 pub mod EnteringLemmas
+pub mod NamedLemmas
+pub mod NumberLemmas

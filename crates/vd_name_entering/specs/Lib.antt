@@ -1,1 +1,4 @@
+pub mod Made
+pub mod Ended
 pub mod Entered
+pub mod Tables

@@ -1,12 +1,12 @@
 //! Declarations that are written in a file.
 
 ghost use Rattle.std.specs.Prelude.{◌≡◌, IfOk};
-ghost use Rattle.vd_name_states.specs.Entering.{declaration_of};
+ghost use Rattle.vd_name_rows.specs.Entering.{declaration_of};
 
 use std::alloc::{AllocError, Global};
 use vd_bytes::{Place, Text};
 use vd_declarations::{Class, Declaration, Declarations, Made, TypeId};
-use vd_name_states::At;
+use vd_name_rows::At;
 
 /// A declaration of a class, a name and a type, at a place. It has no parameters, no generics and no region inside.
 pub fn declaration_of(

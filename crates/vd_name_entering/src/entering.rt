@@ -1,13 +1,13 @@
 //! One declaration.
 
 ghost use Rattle.std.specs.Prelude.{IfOk};
-ghost use Rattle.vd_name_states.specs.Entering.{entering, entering_as};
+ghost use Rattle.vd_name_rows.specs.Entering.{entering, entering_as};
 ghost use Rattle.vd_name_entering.specs.Entered.{IsEntered};
 
 use std::alloc::AllocError;
 use vd_bytes::Refused;
 use vd_declarations::{Declaration, RegionId};
-use vd_name_states::Names;
+use vd_name_rows::Names;
 
 /// Enters a declaration, whatever stands in the region. Where it may not stand beside a declaration of the region, or of what that continues,
 /// this rule is broken at its place.

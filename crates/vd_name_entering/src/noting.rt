@@ -1,12 +1,12 @@
 //! What is noted of declarations, and the ends of regions.
 
 ghost use Rattle.std.specs.Prelude.{◌≡◌, IfOk, OnOk};
-ghost use Rattle.vd_name_states.specs.Noting.{with_body, with_bodies, with_formal, with_span, span_to, tied_to};
+ghost use Rattle.vd_name_rows.specs.Noting.{with_body, with_bodies, with_formal, with_span, span_to, tied_to};
 ghost use Rattle.vd_naming.specs.Endings.{closed};
 
 use std::alloc::AllocError;
 use vd_declarations::{DeclId, RegionId};
-use vd_name_states::{Formal, Names, Span};
+use vd_name_rows::{Formal, Names, Span};
 
 /// The body of a function or package has ended.
 pub fn note_body(names: &mut Names, id: DeclId) -> Result<(), AllocError>

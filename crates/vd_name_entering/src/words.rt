@@ -1,8 +1,8 @@
 //! Several declarations of one class and type.
 
 ghost use Rattle.std.specs.Prelude.{IfOk};
-ghost use Rattle.vd_name_states.specs.Words.{declared_name};
-ghost use Rattle.vd_name_states.specs.Entering.{words_of, declaration_of, entering, entering_words};
+ghost use Rattle.vd_name_rows.specs.Words.{declared_name};
+ghost use Rattle.vd_name_rows.specs.Entering.{words_of, declaration_of, entering, entering_words};
 ghost use Rattle.vd_name_entering.specs.Entered.{IsEntered};
 
 use crate::declarations::declaration_of as new_declaration;
@@ -12,8 +12,8 @@ use vd_bytes::Refused;
 use vd_declarations::{Class, RegionId, TypeId};
 use vd_forest::{Cursor, Opened};
 use vd_forms::Form;
-use vd_least::lesser;
-use vd_name_states::{Names, Word};
+use vd_name_rows::{Names, Word};
+use vd_walks::lesser;
 
 /// Enters the name of a node.
 fn enter_word(

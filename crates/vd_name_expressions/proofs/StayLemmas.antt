@@ -4,8 +4,8 @@ use Rattle.vd_forest.specs.Forest.{Forest, nothing, more}
 use Rattle.vd_forms.specs.declared.form.Form.{Form}
 use Rattle.vd_forms.specs.declared.form.Form.TheVariants as form
 use Rattle.vd_overloads.specs.declared.wanted.Wanted.{Wanted}
-use Rattle.vd_name_states.specs.Designs.{At, Design, Outcome, gives}
-use Rattle.vd_name_states.specs.declared.steps.Want.{Want}
+use Rattle.vd_name_rows.specs.Designs.{At, Design, Outcome, gives}
+use Rattle.vd_name_rows.specs.declared.steps.Want.{Want}
 use Rattle.vd_naming.specs.Expressions.{where_known, wanted_at, is_absent, unresolved, expression}
 
 pub record Stays (at : At) (d : Design) (o : Outcome) : Type 0 where

@@ -4,19 +4,19 @@ ghost use Rattle.std.specs.Prelude.{◌≡◌, IfOk};
 ghost use Rattle.vd_forest.specs.Forest.{Forest};
 ghost use Rattle.vd_forms.specs.declared.form.Form.{Form};
 ghost use Rattle.vd_resolved.specs.declared.node.Resolved.{Resolved};
-ghost use Rattle.vd_name_states.specs.Designs.{sight};
+ghost use Rattle.vd_name_rows.specs.Designs.{sight};
 ghost use Rattle.vd_overloads.specs.Interpretations.{first_place as place_of_first};
 ghost use Rattle.vd_naming.specs.Expressions.{names_or as names_or_rule, not_selecting as refused_selector, mark_of as type_of};
 ghost use Rattle.vd_naming.specs.Indexes.{is_other_type as is_not_discrete};
 
+use crate::wants::is_discrete_type;
+use crate::{can_select, refused_names};
 use std::alloc::{AllocError, Global};
 use vd_bytes::{Place, Refused};
 use vd_declarations::TypeId;
 use vd_forest::Cursor;
 use vd_forms::Form;
-use vd_name_reading::wants::is_discrete_type;
-use vd_name_reading::{can_select, refused_names};
-use vd_name_states::{At, Names};
+use vd_name_rows::{At, Names};
 
 /// The first name of a tree that is refused, or a rule that the whole breaks.
 pub fn names_or(

@@ -4,21 +4,21 @@ ghost use Rattle.std.specs.Prelude.{◌≤◌, [], IfOk, length};
 ghost use Rattle.vd_forest.specs.Forest.{nothing, more, joined};
 ghost use Rattle.vd_forest.specs.Store.{at, Holds, Extends};
 ghost use Rattle.vd_naming.specs.Expressions.{resolved, bounds_as as bounds_of, bounds_if as bounds_where, bounds_of_type as bounds_with_type, narrowed as narrowed_mark};
-ghost use Rattle.vd_name_outcomes.specs.Made.{IsMade};
+ghost use Rattle.vd_name_entering.specs.Made.{IsMade};
 
-use crate::reading::{read_first, read_first_mark, type_declared};
+use crate::expression_reading::{read_first, read_first_mark, type_declared};
+use crate::{fits_wanted, mark_declared};
 use std::alloc::{AllocError, Global};
 use vd_bytes::{Place, Refused};
 use vd_declarations::TypeId;
 use vd_forest::{Cursor, Store};
 use vd_forms::Form;
-use vd_least::lesser;
-use vd_name_outcomes::{Made, join};
-use vd_name_reading::{fits_wanted, mark_declared};
-use vd_name_states::{At, Names};
+use vd_name_entering::{Made, join};
+use vd_name_rows::{At, Names};
 use vd_naming::unresolved;
 use vd_overloads::Wanted;
 use vd_resolved::Resolved;
+use vd_walks::lesser;
 
 /// A node without text over two lists of trees.
 #[tactic(auto, using(vd_forest::proofs::StoreLemmas::growing))]

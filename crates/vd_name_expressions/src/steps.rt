@@ -6,23 +6,22 @@ ghost use Rattle.vd_forest.specs.Store.{Extends};
 ghost use Rattle.vd_naming.specs.Expressions.{target as target_step, selector as selector_step};
 ghost use Rattle.vd_naming.specs.Indexes.{array_index as array_index_step, index_mark as index_mark_step};
 ghost use Rattle.vd_naming.specs.Statements.{surplus as surplus_step, parameter as parameter_step};
-ghost use Rattle.vd_name_outcomes.specs.Made.{IsMade};
+ghost use Rattle.vd_name_entering.specs.Made.{IsMade};
 
+use crate::expression_reading::{read_mark_node, read_node, type_declared};
 use crate::indexes::{is_other_type, names_or, not_selecting};
 use crate::known::expression;
-use crate::reading::{read_mark_node, read_node, type_declared};
+use crate::{mark_declared, mark_of};
 use std::alloc::{AllocError, Global};
 use vd_declarations::Class;
 use vd_forest::{Opened, Store};
 use vd_forms::Form;
-use vd_least::lesser;
-use vd_name_entering::{declaration_of, enter};
-use vd_name_outcomes::{Made, one_tree, unresolved_node};
-use vd_name_reading::{mark_declared, mark_of};
-use vd_name_states::{At, Names, Want};
+use vd_name_entering::{Made, declaration_of, enter, one_tree, unresolved_node};
+use vd_name_rows::{At, Names, Want};
 use vd_naming::broken_if;
 use vd_overloads::Wanted;
 use vd_resolved::Resolved;
+use vd_walks::lesser;
 
 /// A target, whose type is at hand behind it.
 pub fn target(

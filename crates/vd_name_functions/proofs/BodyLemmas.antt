@@ -4,16 +4,16 @@ use Rattle.vd_bytes.specs.declared.answers.Refused.{Refused}
 use Rattle.vd_declarations.specs.declared.declarations.Declaration.{Declaration}
 use Rattle.vd_forest.specs.Forest.{Forest, nothing, more}
 use Rattle.vd_forest.specs.Store.{Holds}
-use Rattle.vd_least.specs.Least.{lesser}
+use Rattle.vd_walks.specs.Least.{lesser}
 use Rattle.vd_resolved.specs.declared.node.Resolved.{Resolved}
-use Rattle.vd_name_states.specs.Designs.{Design}
-use Rattle.vd_name_states.specs.Entering.{Entering, entering}
-use Rattle.vd_name_states.specs.Members.{next_number}
-use Rattle.vd_name_states.specs.Noting.{with_span, with_body, tied_to}
-use Rattle.vd_name_states.specs.declared.notes.Span.{Span}
+use Rattle.vd_name_rows.specs.Designs.{Design}
+use Rattle.vd_name_rows.specs.Entering.{Entering, entering}
+use Rattle.vd_name_rows.specs.Members.{next_number}
+use Rattle.vd_name_rows.specs.Noting.{with_span, with_body, tied_to}
+use Rattle.vd_name_rows.specs.declared.notes.Span.{Span}
 use Rattle.vd_name_entering.specs.Entered.{IsEntered}
-use Rattle.vd_name_outcomes.specs.Made.{IsMade}
-use Rattle.vd_name_outcomes.specs.declared.made.Made.{Made}
+use Rattle.vd_name_entering.specs.Made.{IsMade}
+use Rattle.vd_name_entering.specs.declared.made.Made.{Made}
 use Rattle.vd_naming.specs.Endings.{Ended}
 use Rattle.vd_naming.specs.Expressions.{resolved}
 use Rattle.vd_naming.specs.Functions.{header_span, is_tied, entering_body, function_of_body, body_of}

@@ -4,9 +4,9 @@ use Rattle.std.specs.List.{filter}
 use Rattle.std.specs.Option.{option_or}
 use Rattle.vd_declarations.specs.declared.declarations.Declaration.{Declaration}
 use Rattle.vd_regions.specs.Scopes.{declaration_at, region_at}
-use Rattle.vd_name_states.specs.declared.sorts.Sort.TheVariants as sort
-use Rattle.vd_name_states.specs.Designs.{At, Design}
-use Rattle.vd_name_states.specs.Members.{numbers_in, is_of, next_number}
+use Rattle.vd_name_rows.specs.declared.sorts.Sort.TheVariants as sort
+use Rattle.vd_name_rows.specs.Designs.{At, Design}
+use Rattle.vd_name_rows.specs.Members.{numbers_in, is_of, next_number}
 use Rattle.vd_naming.specs.Functions.{first_that, round_of, first_in_regions, declaration_of_body}
 use Rattle.vd_naming.specs.Units.{is_named}
 use Rattle.vd_name_functions.specs.Headers.{is_open_for, is_open_function, first_open, first_open_in}

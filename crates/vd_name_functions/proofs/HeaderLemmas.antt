@@ -5,9 +5,9 @@ use Rattle.vd_declarations.specs.declared.declarations.Declaration.{Declaration}
 use Rattle.vd_forest.specs.Forest.{Forest, nothing}
 use Rattle.vd_forest.specs.Store.{Holds}
 use Rattle.vd_resolved.specs.declared.node.Resolved.{Resolved}
-use Rattle.vd_name_states.specs.Designs.{At, Design, Outcome, gives}
-use Rattle.vd_name_outcomes.specs.Made.{IsMade}
-use Rattle.vd_name_outcomes.specs.declared.made.Made.{Made}
+use Rattle.vd_name_rows.specs.Designs.{At, Design, Outcome, gives}
+use Rattle.vd_name_entering.specs.Made.{IsMade}
+use Rattle.vd_name_entering.specs.declared.made.Made.{Made}
 use Rattle.vd_naming.specs.Functions.{header_ends, header_ends_as, declaration_of_body, written_function}
 
 tree_kept : (known : Option ℕ) (at : At) (d : Design) (new : Declaration) (tree : Forest Resolved) (first : Option Refused)

@@ -1,6 +1,6 @@
 -- Whether a body names a declaration of the region round it, as a search.
 use Rattle.std.proofs.Common.{◌≡◌, ℕ, Bool, true, false, ◌||◌, ◌&&◌, Option, Some, None, is_some, refl, sym, ap, ◌∙◌}
-use Rattle.vd_finding.specs.Finding.{or_else, first_found}
+use Rattle.vd_walks.specs.Finding.{or_else, first_found}
 use Rattle.vd_forest.specs.Forest.{Forest, nothing, more}
 use Rattle.vd_resolved.specs.declared.node.Resolved.{Resolved}
 use Rattle.vd_naming.specs.Endings.{Ended}

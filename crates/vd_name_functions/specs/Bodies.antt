@@ -1,9 +1,9 @@
 -- A function that its body declares, as it is entered where it is known whether the body is tied to its unit.
 use Rattle.std.specs.Prelude.{ℕ, Bool, if◌then◌else◌}
 use Rattle.vd_declarations.specs.declared.declarations.Declaration.{Declaration}
-use Rattle.vd_name_states.specs.Designs.{Design}
-use Rattle.vd_name_states.specs.Entering.{Entering, entering}
-use Rattle.vd_name_states.specs.Noting.{with_span, with_body, tied_to}
+use Rattle.vd_name_rows.specs.Designs.{Design}
+use Rattle.vd_name_rows.specs.Entering.{Entering, entering}
+use Rattle.vd_name_rows.specs.Noting.{with_span, with_body, tied_to}
 use Rattle.vd_naming.specs.Endings.{Ended}
 use Rattle.vd_naming.specs.Functions.{header_span}
 

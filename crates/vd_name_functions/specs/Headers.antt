@@ -4,10 +4,10 @@ use Rattle.std.specs.Str.{bytes_eq}
 use Rattle.vd_declarations.specs.declared.declarations.Declaration.{Declaration}
 use Rattle.vd_regions.specs.Homographs.{same_types, type_of}
 use Rattle.vd_regions.specs.Scopes.{Scopes, declaration_at}
-use Rattle.vd_name_states.specs.declared.sorts.Sort.TheVariants as sort
-use Rattle.vd_name_states.specs.Designs.{Design}
-use Rattle.vd_name_states.specs.Members.{is_of}
-use Rattle.vd_name_states.specs.Noting.{has_body, span_at}
+use Rattle.vd_name_rows.specs.declared.sorts.Sort.TheVariants as sort
+use Rattle.vd_name_rows.specs.Designs.{Design}
+use Rattle.vd_name_rows.specs.Members.{is_of}
+use Rattle.vd_name_rows.specs.Noting.{has_body, span_at}
 use Rattle.vd_naming.specs.Functions.{mark_as_in, same_header, first_that, functions_round}
 
 -- two lists of parameters have the same types

@@ -1,6 +1,6 @@
 -- What is searched in a body for a declaration that ties it.
 use Rattle.std.specs.Prelude.{ℕ, Bool, true, false, ◌==◌, ◌&&◌, not, Option, Some, None}
-use Rattle.vd_finding.specs.Finding.{Finder}
+use Rattle.vd_walks.specs.Finding.{Finder}
 use Rattle.vd_regions.specs.Scopes.{Scopes, entered_at}
 use Rattle.vd_resolved.specs.declared.node.Resolved.{Resolved}
 

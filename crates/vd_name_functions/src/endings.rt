@@ -2,15 +2,15 @@
 
 ghost use Rattle.std.specs.Prelude.{◌≡◌, ◌≤◌, List, [], Some, None, IfOk, OnOk, length, if◌then◌else◌};
 ghost use Rattle.vd_forest.specs.Store.{Extends};
-ghost use Rattle.vd_name_outcomes.specs.Made.{IsMade};
-ghost use Rattle.vd_name_outcomes.specs.Ended.{seen_ended};
+ghost use Rattle.vd_name_entering.specs.Made.{IsMade};
+ghost use Rattle.vd_name_entering.specs.Ended.{seen_ended};
 ghost use Rattle.vd_forest.specs.Forest.{Forest};
 ghost use Rattle.vd_resolved.specs.declared.node.Resolved.{Resolved as Node};
 ghost use Rattle.vd_naming.specs.Functions.{function_ends, body_of, body_ends, header_span};
 ghost use Rattle.vd_name_entering.specs.Entered.{IsEntered};
 ghost use Rattle.vd_name_functions.specs.Bodies.{ended_body};
-ghost use Rattle.vd_name_states.specs.Designs.{Design};
-ghost use Rattle.vd_name_states.specs.Noting.{with_body, tied_to};
+ghost use Rattle.vd_name_rows.specs.Designs.{Design};
+ghost use Rattle.vd_name_rows.specs.Noting.{with_body, tied_to};
 
 use crate::headers::{function_of_body, function_read};
 use crate::tying::is_tied;
@@ -18,9 +18,8 @@ use std::alloc::{AllocError, Global};
 use vd_bytes::Refused;
 use vd_declarations::{DeclId, Declaration};
 use vd_forest::Store;
-use vd_name_entering::{enter, note_body, note_span, note_tied, span_to};
-use vd_name_outcomes::{Ended, Made, finished};
-use vd_name_states::{Names, Span};
+use vd_name_entering::{Ended, Made, enter, finished, note_body, note_span, note_tied, span_to};
+use vd_name_rows::{Names, Span};
 use vd_resolved::Resolved;
 
 /// A function without a body is declared at its end.

@@ -5,11 +5,11 @@ ghost use Rattle.vd_declarations.specs.declared.classes.Class.TheVariants as cla
 ghost use Rattle.vd_forest.specs.Store.{Extends};
 ghost use Rattle.vd_forms.specs.declared.form.Form.TheVariants as form;
 ghost use Rattle.vd_forms.specs.Forms.{form_number};
-ghost use Rattle.vd_name_states.specs.Noting.{with_formal};
-ghost use Rattle.vd_name_outcomes.specs.Made.{IsMade};
-ghost use Rattle.vd_name_outcomes.specs.Ended.{seen_ended};
+ghost use Rattle.vd_name_rows.specs.Noting.{with_formal};
+ghost use Rattle.vd_name_entering.specs.Made.{IsMade};
+ghost use Rattle.vd_name_entering.specs.Ended.{seen_ended};
 ghost use Rattle.vd_naming.specs.Endings.{form_at, is_form};
-ghost use Rattle.vd_name_states.specs.Entering.{declaration_of};
+ghost use Rattle.vd_name_rows.specs.Entering.{declaration_of};
 ghost use Rattle.vd_naming.specs.Functions.{function_of, generic_function_ends, generic_type_ends};
 
 use crate::headers::function_of;
@@ -17,9 +17,8 @@ use std::alloc::{AllocError, Global};
 use vd_declarations::{Class, DeclId, Declaration, RegionId, TypeId};
 use vd_forest::{Cursor, Store};
 use vd_forms::Form;
-use vd_name_entering::{declaration_of, enter, note_formal};
-use vd_name_outcomes::{Ended, Made, finished};
-use vd_name_states::{At, Formal, Names};
+use vd_name_entering::{Ended, Made, declaration_of, enter, finished, note_formal};
+use vd_name_rows::{At, Formal, Names};
 use vd_resolved::Resolved;
 
 // The number of a form.

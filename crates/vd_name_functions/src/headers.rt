@@ -3,7 +3,7 @@
 ghost use Rattle.std.specs.Prelude.{◌≡◌, List, IfOk};
 ghost use Rattle.vd_forest.specs.Forest.{Forest};
 ghost use Rattle.vd_resolved.specs.declared.node.Resolved.{Resolved as Node};
-ghost use Rattle.vd_name_outcomes.specs.Ended.{seen_ended};
+ghost use Rattle.vd_name_entering.specs.Ended.{seen_ended};
 ghost use Rattle.vd_naming.specs.Functions.{function_class, function_of, written_function, designator, function_of_body};
 
 use std::alloc::{AllocError, Global};
@@ -11,8 +11,8 @@ use vd_bytes::{Place, Text};
 use vd_declarations::{Class, DeclId, Declaration, Declarations, Made, RegionId, TypeId};
 use vd_forest::Cursor;
 use vd_forms::Form;
-use vd_name_outcomes::Ended;
-use vd_name_states::{At, Names, Sort, Word};
+use vd_name_entering::Ended;
+use vd_name_rows::{At, Names, Sort, Word};
 
 /// What kind of function it is that has these generics.
 fn function_class(generics: &[DeclId]) -> Class

@@ -2,14 +2,14 @@
 
 ghost use Rattle.std.specs.Prelude.{◌≡◌, IfOk};
 ghost use Rattle.vd_regions.specs.Homographs.{same_type};
-ghost use Rattle.vd_name_states.specs.Noting.{span_at};
+ghost use Rattle.vd_name_rows.specs.Noting.{span_at};
 ghost use Rattle.vd_naming.specs.Functions.{as_in, mark_as_in, same_header, first_that, declaration_of_body};
 ghost use Rattle.vd_name_functions.specs.Headers.{same_types_as, is_open_function, first_open, first_open_in};
 
 use std::alloc::{AllocError, Global};
 use vd_declarations::{DeclId, Declaration, RegionId, TypeId};
-use vd_name_lookup::named_in;
-use vd_name_states::{At, Names, Sort, Taken};
+use vd_name_entering::named_in;
+use vd_name_rows::{At, Names, Sort, Taken};
 
 /// A number as the header of a body has it, as the other header has it. It may be greater than any number that is given out.
 fn as_in(header: &Taken, number: u32) -> u64

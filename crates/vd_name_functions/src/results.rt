@@ -4,8 +4,8 @@ ghost use Rattle.std.specs.Prelude.{◌≡◌, IfOk, OnOk, List, None};
 ghost use Rattle.vd_forest.specs.Forest.{Forest, nothing, more};
 ghost use Rattle.vd_forest.specs.Store.{Holds, Extends};
 ghost use Rattle.vd_resolved.specs.declared.node.Resolved.{Resolved as Node};
-ghost use Rattle.vd_name_states.specs.Designs.{gives};
-ghost use Rattle.vd_name_outcomes.specs.Made.{IsMade};
+ghost use Rattle.vd_name_rows.specs.Designs.{gives};
+ghost use Rattle.vd_name_entering.specs.Made.{IsMade};
 ghost use Rattle.vd_naming.specs.Paths.{mark};
 ghost use Rattle.vd_naming.specs.Functions.{body_known, body_begun, header_ends, header_ends_as};
 
@@ -15,8 +15,8 @@ use std::alloc::{AllocError, Global};
 use vd_declarations::{DeclId, Declaration};
 use vd_forest::{Opened, Store};
 use vd_forms::Form;
-use vd_name_outcomes::{Made, one_tree};
-use vd_name_states::{At, Names, Taken};
+use vd_name_entering::{Made, one_tree};
+use vd_name_rows::{At, Names, Taken};
 use vd_naming::{Fit, fits_are_tests, named_as};
 use vd_resolved::Resolved;
 

@@ -1,20 +1,20 @@
 //! Bodies that name another declaration of the region round them.
 
 ghost use Rattle.std.specs.Prelude.{◌≡◌, ◌≤◌, IfOk, is_some, length};
-ghost use Rattle.vd_finding.specs.Finding.{first_found};
+ghost use Rattle.vd_walks.specs.Finding.{first_found};
 ghost use Rattle.vd_forest.specs.Store.{at as tree_at};
 ghost use Rattle.vd_regions.specs.Scopes.{entered_at};
-ghost use Rattle.vd_name_outcomes.specs.Ended.{seen_ended};
+ghost use Rattle.vd_name_entering.specs.Ended.{seen_ended};
 ghost use Rattle.vd_naming.specs.Functions.{is_tied, is_uninstantiated_function};
 ghost use Rattle.vd_name_functions.specs.Tying.{stands_beside, tied_by, tying_finder};
 
 use std::alloc::{AllocError, Global};
 use vd_declarations::{Class, DeclId, RegionId};
-use vd_finding::{Finding, find_first};
 use vd_forest::{Cursor, Opened, Store};
-use vd_name_outcomes::Ended;
-use vd_name_states::Names;
+use vd_name_entering::Ended;
+use vd_name_rows::Names;
 use vd_resolved::Resolved;
+use vd_walks::{Finding, find_first};
 
 /// The region of a declaration. That of a number that isn't given out is the one of the libraries.
 fn region_of(names: &Names, id: DeclId) -> u32

@@ -5,20 +5,20 @@ use Rattle.vd_declarations.specs.declared.classes.Class.TheVariants as class
 use Rattle.vd_declarations.specs.declared.declarations.Declaration.{Declaration}
 use Rattle.vd_forest.specs.Forest.{Forest, nothing, more}
 use Rattle.vd_forest.specs.Store.{Holds}
-use Rattle.vd_least.specs.Least.{lesser}
+use Rattle.vd_walks.specs.Least.{lesser}
 use Rattle.vd_resolved.specs.declared.node.Resolved.{Resolved}
-use Rattle.vd_name_states.specs.Designs.{Design, Outcome}
-use Rattle.vd_name_states.specs.Entering.{Entering, declaration_of, entering}
+use Rattle.vd_name_rows.specs.Designs.{Design, Outcome}
+use Rattle.vd_name_rows.specs.Entering.{Entering, declaration_of, entering}
 use Rattle.vd_name_entering.specs.Entered.{IsEntered}
-use Rattle.vd_name_outcomes.specs.Made.{IsMade}
-use Rattle.vd_name_outcomes.specs.declared.made.Made.{Made}
+use Rattle.vd_name_entering.specs.Made.{IsMade}
+use Rattle.vd_name_entering.specs.declared.made.Made.{Made}
 use Rattle.vd_naming.specs.Expressions.{resolved}
 use Rattle.vd_naming.specs.Endings.{Ended, word_of}
 use Rattle.vd_naming.specs.Units.{entering_unit}
 use Rattle.vd_naming.specs.Copies.{Copying, number_behind, numbers_of_copies, type_of_copy, with_copies}
 use Rattle.vd_naming.specs.Instances.{package_instance, package_declared, function_instance, function_declared, with_instance}
-use Rattle.vd_name_copies.specs.Copied.{IsInstance}
-use Rattle.vd_name_copies.specs.declared.instances.Instance.{Instance}
+use Rattle.vd_name_instances.specs.Copied.{IsInstance}
+use Rattle.vd_name_instances.specs.declared.instances.Instance.{Instance}
 
 -- a declaration with what it takes from that of the package or function
 abbrev pub with_taken : Instance → Declaration → Declaration

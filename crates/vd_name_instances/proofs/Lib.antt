@@ -1,1 +1,2 @@
+pub mod AddingLemmas
 pub mod InstanceLemmas

@@ -1,0 +1,4 @@
+pub mod Offsets
+pub mod Noted
+pub mod Copied
+pub mod Sources

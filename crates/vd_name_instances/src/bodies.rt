@@ -2,14 +2,14 @@
 
 ghost use Rattle.std.specs.Prelude.{◌≡◌, OnOk};
 ghost use Rattle.std.specs.List.{list_any};
-ghost use Rattle.vd_name_states.specs.Noting.{as_instance as noted_as_instance, is_tied_elsewhere as is_tied_to_another};
+ghost use Rattle.vd_name_rows.specs.Noting.{as_instance as noted_as_instance, is_tied_elsewhere as is_tied_to_another};
 ghost use Rattle.vd_naming.specs.Functions.{is_written_function as is_function_written};
 ghost use Rattle.vd_naming.specs.Instances.{wants_body as needs_body, lacks_body as has_no_body, with_instance};
 
 use std::alloc::AllocError;
 use vd_declarations::{Class, DeclId};
 use vd_name_entering::note_body;
-use vd_name_states::Names;
+use vd_name_rows::Names;
 
 /// Whether a class is that of a function that is written, with generics or without.
 fn is_written_function(class: &Class) -> bool

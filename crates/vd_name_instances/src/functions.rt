@@ -5,27 +5,26 @@ ghost use Rattle.vd_declarations.specs.declared.classes.Class.TheVariants as cla
 ghost use Rattle.vd_forest.specs.Forest.{Forest};
 ghost use Rattle.vd_forest.specs.Store.{Extends};
 ghost use Rattle.vd_resolved.specs.declared.node.Resolved.{Resolved};
-ghost use Rattle.vd_name_states.specs.Entering.{declaration_of};
+ghost use Rattle.vd_name_rows.specs.Entering.{declaration_of};
 ghost use Rattle.vd_naming.specs.Instances.{copying_at, function_declared as declared_function, refused_symbol as symbol_refused, refused_body as body_refused, undeclared_function as undeclared_of_function, function_instance_of as instance_of_function, function_instance_as as instance_of_known, function_instance_ends as ending_of_instance};
-ghost use Rattle.vd_name_outcomes.specs.Made.{IsMade};
-ghost use Rattle.vd_name_outcomes.specs.Ended.{seen_ended};
+ghost use Rattle.vd_name_entering.specs.Made.{IsMade};
+ghost use Rattle.vd_name_entering.specs.Ended.{seen_ended};
 
 use crate::bodies::{is_tied_elsewhere, note_instance};
 use crate::refusals::{actuals_at, refused_also, refused_entry};
 use crate::settled::are_settled;
 use crate::symbols::is_wrong_symbol;
+use crate::{Instance, add_copies};
 use std::alloc::{AllocError, Global};
 use vd_bytes::{Place, Refused};
 use vd_declarations::{Class, DeclId, Declaration, RegionId};
 use vd_forest::Store;
-use vd_least::lesser;
-use vd_name_copies::{Instance, add_copies};
-use vd_name_entering::{enter, named_at};
-use vd_name_outcomes::{Ended, Made, finished};
-use vd_name_states::{At, Names};
+use vd_name_entering::{Ended, Made, enter, finished, named_at};
+use vd_name_rows::{At, Names};
 use vd_naming::broken_if;
 use vd_resolved::Resolved;
 use vd_trees::Revision;
+use vd_walks::lesser;
 
 /// The revision of a place.
 fn revision_of(at: &At<'_>) -> Revision

@@ -3,21 +3,20 @@
 ghost use Rattle.std.specs.Prelude.{◌≡◌, ◌≤◌, None, Some, IfOk, length};
 ghost use Rattle.vd_declarations.specs.declared.classes.Class.TheVariants as class;
 ghost use Rattle.vd_forest.specs.Store.{Extends};
-ghost use Rattle.vd_name_states.specs.Entering.{declaration_of};
+ghost use Rattle.vd_name_rows.specs.Entering.{declaration_of};
 ghost use Rattle.vd_naming.specs.Instances.{copying_at, package_declared as declared_package, undeclared_package as undeclared_of_package, package_instance_of as instance_of_package, package_instance_as as instance_of_known, package_instance_ends as ending_of_instance};
-ghost use Rattle.vd_name_outcomes.specs.Made.{IsMade};
-ghost use Rattle.vd_name_outcomes.specs.Ended.{seen_ended};
+ghost use Rattle.vd_name_entering.specs.Made.{IsMade};
+ghost use Rattle.vd_name_entering.specs.Ended.{seen_ended};
 
 use crate::bodies::lacks_body;
 use crate::refusals::{actuals_at, refused_also, refused_unit};
 use crate::settled::are_settled;
+use crate::{Instance, add_copies};
 use std::alloc::{AllocError, Global};
 use vd_declarations::{Class, DeclId, Declaration};
 use vd_forest::Store;
-use vd_name_copies::{Instance, add_copies};
-use vd_name_entering::named_at;
-use vd_name_outcomes::{Ended, Made, finished};
-use vd_name_states::{At, Names};
+use vd_name_entering::{Ended, Made, finished, named_at};
+use vd_name_rows::{At, Names};
 use vd_name_units::enter_unit;
 use vd_naming::broken_if;
 use vd_resolved::Resolved;

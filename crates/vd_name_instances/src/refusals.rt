@@ -1,18 +1,18 @@
 //! What is refused of instances, and what entering them would refuse where they aren't entered.
 
 ghost use Rattle.std.specs.Prelude.{◌≡◌, IfOk};
-ghost use Rattle.vd_least.specs.Least.{lesser as lesser_refusal};
-ghost use Rattle.vd_name_states.specs.Entering.{entering_as};
+ghost use Rattle.vd_walks.specs.Least.{lesser as lesser_refusal};
+ghost use Rattle.vd_name_rows.specs.Entering.{entering_as};
 ghost use Rattle.vd_naming.specs.Units.{entering_unit};
 
 use std::alloc::AllocError;
 use vd_bytes::Refused;
 use vd_declarations::{Declaration, RegionId};
-use vd_given::numbers::REGION_OF_WORK;
-use vd_least::lesser;
-use vd_name_outcomes::Made;
-use vd_name_states::{Actual, At, Names};
+use vd_name_entering::Made;
+use vd_name_rows::{Actual, At, Names};
 use vd_name_units::refused_word;
+use vd_predefined::numbers::REGION_OF_WORK;
+use vd_walks::lesser;
 
 /// What entering a declaration would refuse.
 pub(crate) fn refused_entry(

@@ -8,7 +8,7 @@ ghost use Rattle.vd_naming.specs.Instances.{is_settled as has_its_actual, are_se
 use std::alloc::{AllocError, Global};
 use vd_declarations::{Class, DeclId};
 use vd_name_actuals::StandIns;
-use vd_name_states::{Actual, Names};
+use vd_name_rows::{Actual, Names};
 
 /// Whether a generic of a class has the actual that it needs. A constant needs none here.
 fn is_settled(class: &Class, actual: Option<DeclId>) -> bool

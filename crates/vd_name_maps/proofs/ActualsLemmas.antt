@@ -4,9 +4,9 @@ use Rattle.std.specs.List.{flat_map}
 use Rattle.vd_bytes.specs.declared.places.Place.{Place}
 use Rattle.vd_forest.specs.Forest.{Forest}
 use Rattle.vd_forms.specs.declared.form.Form.{Form}
-use Rattle.vd_sights.specs.Sights.{Standpoint, sight_from}
-use Rattle.vd_name_states.specs.declared.at.Actual.{Actual}
-use Rattle.vd_name_states.specs.Designs.{At, Design, standpoint, sight}
+use Rattle.vd_visible.specs.Sights.{Standpoint, sight_from}
+use Rattle.vd_name_rows.specs.declared.at.Actual.{Actual}
+use Rattle.vd_name_rows.specs.Designs.{At, Design, standpoint, sight}
 use Rattle.vd_naming.specs.Associations.{Element}
 use Rattle.vd_naming.specs.Actuals.{Known, types_given}
 use Rattle.vd_naming.specs.Generics.{function_for, functions_given, map_between}

@@ -7,17 +7,17 @@ use Rattle.vd_forest.specs.Forest.{Forest, nothing, more, turned}
 use Rattle.vd_forest.specs.Store.{at, Holds, Extends}
 use Rattle.vd_forest.proofs.StoreLemmas.{turned_grown, extends_trans}
 use Rattle.vd_forms.specs.declared.form.Form.{Form}
-use Rattle.vd_least.specs.Least.{lesser}
-use Rattle.vd_least.proofs.OrderLaws.{lesser_brackets, lesser_right}
+use Rattle.vd_walks.specs.Least.{lesser}
+use Rattle.vd_walks.proofs.OrderLaws.{lesser_brackets, lesser_right}
 use Rattle.vd_resolved.specs.declared.node.Resolved.{Resolved}
-use Rattle.vd_name_states.specs.Designs.{At, Design, Outcome}
+use Rattle.vd_name_rows.specs.Designs.{At, Design, Outcome}
 use Rattle.vd_naming.specs.Associations.{Element}
 use Rattle.vd_naming.specs.Actuals.{Known}
 use Rattle.vd_naming.specs.Generics.{beside, element_outcome, elements_outcome}
-use Rattle.vd_name_associations.specs.Seen.{seen_element}
-use Rattle.vd_name_associations.specs.declared.element.Element as code
-use Rattle.vd_name_outcomes.specs.Made.{IsMade}
-use Rattle.vd_name_outcomes.specs.declared.made.Made.{Made}
+use Rattle.vd_name_maps.specs.Seen.{seen_element}
+use Rattle.vd_name_maps.specs.declared.element.Element as code
+use Rattle.vd_name_entering.specs.Made.{IsMade}
+use Rattle.vd_name_entering.specs.declared.made.Made.{Made}
 use Rattle.vd_name_maps.proofs.StayLemmas.{elements_stay}
 
 -- ---- the elements that are left

@@ -1,3 +1,6 @@
+pub mod ElementLemmas
+pub mod LeftLemmas
+pub mod ValueLemmas
 pub mod ActualLemmas
 pub mod ActualsLemmas
 pub mod ElementsLemmas

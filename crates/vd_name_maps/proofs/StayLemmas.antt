@@ -7,8 +7,8 @@ use Rattle.vd_forest.specs.Forest.{Forest, nothing, more}
 use Rattle.vd_forms.specs.declared.form.Form.{Form}
 use Rattle.vd_forms.specs.declared.form.Form.TheVariants as form
 use Rattle.vd_overloads.specs.declared.wanted.Wanted.TheVariants as wanted
-use Rattle.vd_sights.specs.Sights.{class_of, mark_of}
-use Rattle.vd_name_states.specs.Designs.{At, Design, Outcome}
+use Rattle.vd_visible.specs.Sights.{class_of, mark_of}
+use Rattle.vd_name_rows.specs.Designs.{At, Design, Outcome}
 use Rattle.vd_naming.specs.Associations.{Element}
 use Rattle.vd_naming.specs.Expressions.{with_mark}
 use Rattle.vd_name_expressions.proofs.StayLemmas.{Stays, known_stays}

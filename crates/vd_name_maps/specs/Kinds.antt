@@ -3,9 +3,9 @@ use Rattle.std.specs.Prelude.{ℕ, List}
 use Rattle.vd_bytes.specs.declared.places.Place.{Place}
 use Rattle.vd_forest.specs.Forest.{Forest}
 use Rattle.vd_forms.specs.declared.form.Form.{Form}
-use Rattle.vd_sights.specs.Sights.{class_of}
-use Rattle.vd_name_states.specs.Designs.{At, Design, Outcome, gives}
-use Rattle.vd_name_states.specs.Refusals.{lesser, broken}
+use Rattle.vd_visible.specs.Sights.{class_of}
+use Rattle.vd_name_rows.specs.Designs.{At, Design, Outcome, gives}
+use Rattle.vd_name_rows.specs.Refusals.{lesser, broken}
 use Rattle.vd_naming.specs.Expressions.{unresolved}
 use Rattle.vd_naming.specs.Statements.{alone}
 use Rattle.vd_naming.specs.Ports.{names_of_expression}

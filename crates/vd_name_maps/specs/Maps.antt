@@ -2,8 +2,8 @@
 use Rattle.std.specs.Prelude.{ℕ, List, ◌&&◌, Option}
 use Rattle.std.specs.List.{list_any}
 use Rattle.vd_bytes.specs.declared.answers.Refused.{Refused}
-use Rattle.vd_name_states.specs.Designs.{At, Design}
-use Rattle.vd_name_states.specs.Refusals.{broken_if}
+use Rattle.vd_name_rows.specs.Designs.{At, Design}
+use Rattle.vd_name_rows.specs.Refusals.{broken_if}
 use Rattle.vd_naming.specs.Associations.{Element, are_known}
 use Rattle.vd_naming.specs.Actuals.{Known}
 use Rattle.vd_naming.specs.Generics.{lacks_value}

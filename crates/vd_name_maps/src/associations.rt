@@ -12,9 +12,9 @@ use vd_bytes::{Place, Refused};
 use vd_declarations::DeclId;
 use vd_forest::{Cursor, Opened, Store};
 use vd_forms::{Form, is_expression};
-use vd_name_outcomes::{add_node, join, one_tree};
-use vd_name_reading::refused_names;
-use vd_name_states::{At, Names};
+use vd_name_entering::{add_node, join, one_tree};
+use vd_name_expressions::refused_names;
+use vd_name_rows::{At, Names};
 use vd_naming::unresolved;
 use vd_resolved::Resolved;
 

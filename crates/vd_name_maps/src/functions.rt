@@ -4,14 +4,15 @@
 ghost use Rattle.std.specs.Prelude.{◌≡◌, ◌++◌, Option, IfOk};
 ghost use Rattle.std.specs.List.{flat_map, list_all};
 ghost use Rattle.vd_forest.specs.Forest.{nothing, with_next};
-ghost use Rattle.vd_sights.specs.Sights.{sight_from, name_of};
-ghost use Rattle.vd_name_states.specs.Noting.{formal_at};
+ghost use Rattle.vd_visible.specs.Sights.{sight_from, name_of};
+ghost use Rattle.vd_name_rows.specs.Noting.{formal_at};
 ghost use Rattle.vd_naming.specs.Actuals.{profile_in as profile_as_known, function_among as only_function, actual_meant as meant_by_actual, declarations_meant as meant_declarations};
 ghost use Rattle.vd_naming.specs.Associations.{value_for};
 ghost use Rattle.vd_naming.specs.Generics.{default_function as default_of, function_or_default as function_of_value, function_for as function_of};
 ghost use Rattle.vd_name_actuals.specs.Seen.{seen_known};
 ghost use Rattle.vd_name_maps.specs.Pairs.{listed};
 
+use crate::Elements;
 use crate::types::paired;
 use std::alloc::{AllocError, Global};
 use vd_declarations::{Class, DeclId, TypeId};
@@ -19,8 +20,7 @@ use vd_forest::Cursor;
 use vd_forms::Form;
 use vd_name_actuals::meaning::{actual_meant, declarations_meant};
 use vd_name_actuals::{Known, function_among, profile_in};
-use vd_name_associations::Elements;
-use vd_name_states::{Actual, Names};
+use vd_name_rows::{Actual, Names};
 
 /// Whether an instance has to give a generic a value.
 pub(crate) fn is_needed(names: &Names, id: DeclId) -> bool

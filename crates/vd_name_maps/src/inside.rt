@@ -5,23 +5,23 @@ ghost use Rattle.vd_forest.specs.Forest.{nothing, more, with_next};
 ghost use Rattle.vd_forest.specs.Store.{Extends};
 ghost use Rattle.vd_naming.specs.Generics.{in_element as outcome_in_element, element_outcome as outcome_of_element, elements_outcome as outcome_of_elements};
 ghost use Rattle.vd_name_actuals.specs.Seen.{seen_known};
-ghost use Rattle.vd_name_associations.specs.Seen.{seen_element};
-ghost use Rattle.vd_name_states.specs.Designs.{Design, Outcome};
-ghost use Rattle.vd_name_outcomes.specs.Made.{IsMade};
+ghost use Rattle.vd_name_maps.specs.Seen.{seen_element};
+ghost use Rattle.vd_name_rows.specs.Designs.{Design, Outcome};
+ghost use Rattle.vd_name_entering.specs.Made.{IsMade};
 ghost use Rattle.vd_name_maps.specs.Kinds.{for_no_generic, for_one_generic};
 
+use crate::Element;
 use crate::associations::{association_node, named_front, names_of_expression};
 use std::alloc::{AllocError, Global};
 use vd_bytes::Refused;
 use vd_declarations::DeclId;
 use vd_forest::{Cursor, Opened, Store};
 use vd_forms::Form;
-use vd_least::lesser;
 use vd_name_actuals::{Known, outcome_for};
-use vd_name_associations::Element;
-use vd_name_outcomes::{Made, alone, unresolved_node};
-use vd_name_states::{At, Names};
+use vd_name_entering::{Made, alone, unresolved_node};
+use vd_name_rows::{At, Names};
 use vd_resolved::Resolved;
+use vd_walks::lesser;
 
 /// The actual of a generic in its element, which may be an association.
 #[tactic(auto, using(vd_forest::proofs::StoreLemmas::growing))]

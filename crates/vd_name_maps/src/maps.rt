@@ -5,8 +5,9 @@ ghost use Rattle.vd_forest.specs.Forest.{nothing, more};
 ghost use Rattle.vd_forest.specs.Store.{Extends};
 ghost use Rattle.vd_naming.specs.Generics.{map_between as map_with, map_of as map_for, generic_map as generic_map_step};
 ghost use Rattle.vd_naming.specs.Associations.{elements as elements_of};
-ghost use Rattle.vd_name_outcomes.specs.Made.{IsMade};
+ghost use Rattle.vd_name_entering.specs.Made.{IsMade};
 
+use crate::Elements;
 use crate::functions::with_functions;
 use crate::inside::elements_outcome;
 use crate::missing::missing_generic;
@@ -15,12 +16,11 @@ use std::alloc::{AllocError, Global};
 use vd_declarations::DeclId;
 use vd_forest::{Opened, Store};
 use vd_forms::Form;
-use vd_least::lesser;
 use vd_name_actuals::{Known, StandIns};
-use vd_name_associations::Elements;
-use vd_name_outcomes::{Made, add_node, unresolved_node};
-use vd_name_states::{Actual, At, Names};
+use vd_name_entering::{Made, add_node, unresolved_node};
+use vd_name_rows::{Actual, At, Names};
 use vd_resolved::Resolved;
+use vd_walks::lesser;
 
 /// What a map comes to, with the actuals of its types and functions.
 #[derive(Drop)]

@@ -7,14 +7,14 @@ ghost use Rattle.vd_naming.specs.Generics.{lacks_function as has_no_function, la
 ghost use Rattle.vd_name_actuals.specs.Seen.{seen_known};
 ghost use Rattle.vd_name_maps.specs.Maps.{missing_among};
 
+use crate::Elements;
 use crate::functions::{default_among, is_needed};
 use std::alloc::{AllocError, Global};
 use vd_bytes::Refused;
 use vd_declarations::{Class, DeclId, TypeId};
 use vd_name_actuals::refusals::is_unfit;
 use vd_name_actuals::{Known, profile_in};
-use vd_name_associations::Elements;
-use vd_name_states::{At, Names};
+use vd_name_rows::{At, Names};
 use vd_naming::broken_if;
 
 /// Whether no function is known that can stand for a generic one.

@@ -3,16 +3,16 @@
 ghost use Rattle.std.specs.Prelude.{◌≡◌, map, IfOk};
 ghost use Rattle.vd_forest.specs.Forest.{nothing, with_next};
 ghost use Rattle.vd_naming.specs.Actuals.{paired as pair_of, type_for as type_of_element, types_given as types_of};
-ghost use Rattle.vd_name_associations.specs.Seen.{seen_element};
+ghost use Rattle.vd_name_maps.specs.Seen.{seen_element};
 ghost use Rattle.vd_name_maps.specs.Pairs.{listed};
 
+use crate::Element;
 use std::alloc::{AllocError, Global};
 use vd_declarations::{Class, DeclId};
 use vd_forest::Store;
-use vd_name_associations::Element;
-use vd_name_expressions::reading::read_first_mark;
-use vd_name_reading::mark_declared;
-use vd_name_states::{Actual, At, Names};
+use vd_name_expressions::expression_reading::read_first_mark;
+use vd_name_expressions::mark_declared;
+use vd_name_rows::{Actual, At, Names};
 
 /// A generic with what stands for it, where that is known.
 pub(crate) fn paired(generic: DeclId, found: Option<DeclId>) -> Option<Actual>

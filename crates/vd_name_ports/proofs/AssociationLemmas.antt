@@ -8,13 +8,13 @@ use Rattle.vd_forms.specs.declared.form.Form.{Form}
 use Rattle.vd_forms.specs.declared.form.Form.TheVariants as form
 use Rattle.vd_resolved.specs.declared.node.Resolved.{Resolved}
 use Rattle.vd_regions.specs.Scopes.{declaration_at}
-use Rattle.vd_name_states.specs.Designs.{At, Design, Outcome}
-use Rattle.vd_name_states.specs.Noting.{formal_at}
-use Rattle.vd_name_states.specs.Refusals.{lesser}
+use Rattle.vd_name_rows.specs.Designs.{At, Design, Outcome}
+use Rattle.vd_name_rows.specs.Noting.{formal_at}
+use Rattle.vd_name_rows.specs.Refusals.{lesser}
 use Rattle.vd_naming.specs.Expressions.{resolved, mark_of}
 use Rattle.vd_naming.specs.Ports.{Front, OfPort, Converted, OtherFront, Map, choices_node, association_node, associated, associated_with, by_conversion, converted_type, not_back}
-use Rattle.vd_name_reading.specs.Reads.{IsRead}
-use Rattle.vd_name_reading.specs.declared.reading.Read.{Read}
+use Rattle.vd_name_expressions.specs.Reads.{IsRead}
+use Rattle.vd_name_expressions.specs.declared.reading.Read.{Read}
 use Rattle.vd_name_ports.specs.Fronts.{known_front, by_front}
 
 -- what stands in front of `=>` is all that is asked of it

@@ -5,11 +5,11 @@ use Rattle.vd_forest.specs.Forest.{Forest, nothing, more}
 use Rattle.vd_forms.specs.declared.form.Form.{Form}
 use Rattle.vd_overloads.specs.declared.wanted.Wanted.TheVariants as wanted
 use Rattle.vd_resolved.specs.declared.node.Resolved.{Resolved}
-use Rattle.vd_name_states.specs.Designs.{At, Design}
+use Rattle.vd_name_rows.specs.Designs.{At, Design}
 use Rattle.vd_naming.specs.Expressions.{read_as}
 use Rattle.vd_naming.specs.Ports.{among_ports, converted, operand_type}
-use Rattle.vd_name_reading.specs.Reads.{IsRead}
-use Rattle.vd_name_reading.specs.declared.reading.Read.{Read}
+use Rattle.vd_name_expressions.specs.Reads.{IsRead}
+use Rattle.vd_name_expressions.specs.declared.reading.Read.{Read}
 
 pub read_among : (store : List (Forest Resolved)) (read : Read) (entity : ℕ) (at among : At) (d : Design) (tree : Forest Form)
     → among ≡ among_ports entity at d → IsRead store read (read_as among d wanted.Free tree) → IsRead store read (converted entity at d tree)

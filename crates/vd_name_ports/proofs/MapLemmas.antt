@@ -7,15 +7,15 @@ use Rattle.vd_forest.specs.Store.{at, Holds, Extends}
 use Rattle.vd_forest.proofs.ForestLemmas.{turned_turned, turned_is, joined_nothing}
 use Rattle.vd_forms.specs.declared.form.Form.{Form}
 use Rattle.vd_resolved.specs.declared.node.Resolved.{Resolved}
-use Rattle.vd_name_states.specs.Designs.{At, Design, Outcome}
-use Rattle.vd_name_states.specs.Refusals.{lesser, broken, broken_if}
+use Rattle.vd_name_rows.specs.Designs.{At, Design, Outcome}
+use Rattle.vd_name_rows.specs.Refusals.{lesser, broken, broken_if}
 use Rattle.vd_naming.specs.Associations.{is_among_numbers}
 use Rattle.vd_naming.specs.Expressions.{resolved, unresolved}
 use Rattle.vd_naming.specs.Ports.{Map, with_element, with_other, names_of_expression, missing_port, map_outcome}
-use Rattle.vd_name_outcomes.specs.Made.{IsMade}
-use Rattle.vd_name_outcomes.specs.declared.made.Made.{Made}
-use Rattle.vd_name_reading.specs.Reads.{IsRead}
-use Rattle.vd_name_reading.specs.declared.reading.Read.{Read}
+use Rattle.vd_name_entering.specs.Made.{IsMade}
+use Rattle.vd_name_entering.specs.declared.made.Made.{Made}
+use Rattle.vd_name_expressions.specs.Reads.{IsRead}
+use Rattle.vd_name_expressions.specs.declared.reading.Read.{Read}
 use Rattle.vd_name_ports.specs.Maps.{seen_map, IsMapped}
 use Rattle.vd_name_ports.specs.declared.elements.Mapped as code
 

@@ -4,7 +4,7 @@ use Rattle.vd_bytes.specs.declared.places.Place.{Place}
 use Rattle.vd_forest.specs.Forest.{Forest, nothing, parts_of, with_next}
 use Rattle.vd_forms.specs.declared.form.Form.{Form}
 use Rattle.vd_regions.specs.Scopes.{declaration_at}
-use Rattle.vd_name_states.specs.Designs.{At, Design}
+use Rattle.vd_name_rows.specs.Designs.{At, Design}
 use Rattle.vd_naming.specs.Ports.{Front, OfPort, Converted, Map, named_front, associated_with, by_conversion, converted, with_other}
 use Rattle.vd_name_ports.specs.declared.fronts.Front as code
 use Rattle.vd_name_ports.specs.declared.fronts.Front.TheVariants as front

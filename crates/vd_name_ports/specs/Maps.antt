@@ -3,8 +3,8 @@ use Rattle.std.specs.Prelude.{◌≡◌, ◌≤◌, ℕ, Bool, ◌&&◌, not, Li
 use Rattle.vd_forest.specs.Forest.{Forest, nothing, turned}
 use Rattle.vd_forest.specs.Store.{at}
 use Rattle.vd_resolved.specs.declared.node.Resolved.{Resolved}
-use Rattle.vd_name_states.specs.Designs.{Design}
-use Rattle.vd_name_states.specs.Noting.{formal_at}
+use Rattle.vd_name_rows.specs.Designs.{Design}
+use Rattle.vd_name_rows.specs.Noting.{formal_at}
 use Rattle.vd_naming.specs.Associations.{is_among_numbers}
 use Rattle.vd_naming.specs.Ports.{Map}
 use Rattle.vd_name_ports.specs.declared.elements.Mapped as code

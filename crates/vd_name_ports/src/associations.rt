@@ -18,10 +18,10 @@ use vd_bytes::Refused;
 use vd_declarations::{DeclId, TypeId};
 use vd_forest::{Cursor, Opened, Store};
 use vd_forms::Form;
-use vd_least::lesser;
+use vd_name_expressions::{Read, mark_of};
 use vd_name_maps::{association_node, named_front};
-use vd_name_reading::{Read, mark_of};
 use vd_resolved::Resolved;
+use vd_walks::lesser;
 
 /// The port that an element by place is for. None stands behind an association.
 fn port_at(is_named: bool, ports: &[DeclId], number: usize) -> Option<DeclId>

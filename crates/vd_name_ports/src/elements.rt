@@ -4,9 +4,9 @@ ghost use Rattle.std.specs.Prelude.{◌≡◌, ◌≤◌, List, Some, IfOk, leng
 ghost use Rattle.vd_forest.specs.Forest.{Forest, nothing, more};
 ghost use Rattle.vd_forest.specs.Store.{Holds, Extends};
 ghost use Rattle.vd_resolved.specs.declared.node.Resolved.{Resolved};
-ghost use Rattle.vd_name_states.specs.Designs.{Outcome};
+ghost use Rattle.vd_name_rows.specs.Designs.{Outcome};
 ghost use Rattle.vd_naming.specs.Ports.{no_map, with_element as element_too, with_other as other_too, named_from_here as behind_name};
-ghost use Rattle.vd_name_reading.specs.Reads.{IsRead};
+ghost use Rattle.vd_name_expressions.specs.Reads.{IsRead};
 ghost use Rattle.vd_name_ports.specs.Maps.{seen_map, IsMapped};
 
 use crate::instance::Instance;
@@ -15,13 +15,13 @@ use vd_bytes::{Place, Refused};
 use vd_declarations::DeclId;
 use vd_forest::{Opened, Store};
 use vd_forms::Form;
-use vd_least::lesser;
-use vd_name_associations::given::Given;
+use vd_name_entering::unresolved_node;
+use vd_name_expressions::Read;
+use vd_name_maps::given::Given;
 use vd_name_maps::names_of_expression;
-use vd_name_outcomes::unresolved_node;
-use vd_name_reading::Read;
 use vd_naming::broken_if;
 use vd_resolved::Resolved;
+use vd_walks::lesser;
 
 /// The elements of a port map so far: their trees, the last one first, the first rule that is broken, the ports that have an element, whether
 /// each element is one of a port, and whether one has a name in front of `=>`.

@@ -11,10 +11,10 @@ use std::alloc::{AllocError, Global};
 use vd_declarations::DeclId;
 use vd_forest::Cursor;
 use vd_forms::Form;
-use vd_name_lookup::region_inside;
-use vd_name_states::Names;
-use vd_sights::lists::simple_name;
-use vd_sights::port_in;
+use vd_name_entering::region_inside;
+use vd_name_rows::Names;
+use vd_visible::lists::simple_name;
+use vd_visible::port_in;
 
 /// What stands in front of `=>`, where there is a port of its name.
 #[derive(Clone, Copy)]

@@ -1,7 +1,7 @@
 //! Where a port map stands.
 
 use vd_declarations::DeclId;
-use vd_name_states::{At, Names};
+use vd_name_rows::{At, Names};
 
 /// A port map: the design so far, the place of the map, the same place where the ports of the entity are looked up first, and the entity.
 #[derive(Clone, Copy)]

@@ -6,7 +6,7 @@ ghost use Rattle.vd_forest.specs.Forest.{Forest};
 ghost use Rattle.vd_forest.specs.Store.{Extends};
 ghost use Rattle.vd_resolved.specs.declared.node.Resolved.{Resolved};
 ghost use Rattle.vd_naming.specs.Ports.{among_ports as place_among_ports, no_map, with_trees as trees_too, missing_port as missing_among, map_of_known, port_map as port_map_step};
-ghost use Rattle.vd_name_outcomes.specs.Made.{IsMade};
+ghost use Rattle.vd_name_entering.specs.Made.{IsMade};
 ghost use Rattle.vd_name_ports.specs.Maps.{seen_map, IsMapped, lacks_actual};
 
 use crate::actuals::formal_at;
@@ -19,12 +19,12 @@ use vd_bytes::Refused;
 use vd_declarations::DeclId;
 use vd_forest::{Cursor, Opened, Store};
 use vd_forms::Form;
-use vd_least::lesser;
-use vd_name_associations::given::Given;
-use vd_name_outcomes::{Made, add_node, unresolved_node};
-use vd_name_states::{At, Names};
+use vd_name_entering::{Made, add_node, unresolved_node};
+use vd_name_maps::given::Given;
+use vd_name_rows::{At, Names};
 use vd_naming::broken_if;
 use vd_resolved::Resolved;
+use vd_walks::lesser;
 
 /// The elements of a map.
 fn with_trees(

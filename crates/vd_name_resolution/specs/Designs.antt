@@ -2,7 +2,7 @@
 -- declaration declares.
 use Rattle.std.specs.Prelude.{map}
 use Rattle.vd_forest.specs.Forest.{Forest}
-use Rattle.vd_name_states.specs.Designs.{Design}
+use Rattle.vd_name_rows.specs.Designs.{Design}
 use Rattle.vd_naming.specs.Settled.{settled_declaration, settled_node}
 use Rattle.vd_resolved.specs.Trees.{ResolvedTree}
 use Rattle.vd_resolved.specs.declared.node.Resolved.{Resolved}

@@ -6,13 +6,12 @@ ghost use Rattle.vd_naming.specs.Naming.{names_of};
 ghost use Rattle.vd_naming.specs.Settled.{resolved_tree};
 ghost use Rattle.vd_name_resolution.specs.Designs.{settled_from};
 
+use crate::{Settling, given_names, settle_tree, settled_declarations, walk_units};
 use std::alloc::{AllocError, Global};
 use vd_bytes::Refused;
 use vd_forest::{Cursor, Store};
 use vd_forms::Form;
-use vd_name_settling::{Settling, settle_tree};
-use vd_name_states::Names;
-use vd_name_walk::{given_names, settled_declarations, walk_units};
+use vd_name_rows::Names;
 use vd_resolved::{Resolved, Tree};
 use vd_trees::Revision;
 

@@ -1,3 +1,6 @@
 pub mod RowLemmas
 pub mod StateLemmas
 pub mod ViewLemmas
+pub mod LookLemmas
+pub mod ElementLemmas
+pub mod OperatorLemmas

@@ -5,7 +5,7 @@ use Rattle.vd_bytes.specs.declared.answers.Refused.{Refused}
 use Rattle.vd_bytes.specs.declared.places.Place.{Place}
 use Rattle.vd_forest.specs.Forest.{Forest}
 use Rattle.vd_forms.specs.declared.form.Form.{Form}
-use Rattle.vd_least.specs.Least.{least}
+use Rattle.vd_walks.specs.Least.{least}
 use Rattle.vd_name_rules.proofs.RowLemmas.{AreAlike, parts_alike, row0}
 use Rattle.vd_name_rules.specs.Coming.{all_of, coming_by, sort_of}
 use Rattle.vd_name_rules.specs.Judges.{name_judge, used, used_at}
@@ -15,9 +15,9 @@ use Rattle.vd_name_rules.specs.declared.coming.Sort.TheVariants.{Read}
 use Rattle.vd_port_modes.specs.Source.{Source, design_in}
 use Rattle.vd_resolved.specs.Trees.{ResolvedTree}
 use Rattle.vd_resolved.specs.declared.node.Resolved.{Resolved}
-use Rattle.vd_rule_groups.proofs.WalkLemmas.{filtered, firsts_are_least, least_alike}
-use Rattle.vd_rule_groups.specs.Groups.{firsts_by, is_of_rules, judge_by, name_used, names_used}
-use Rattle.vd_rule_groups.specs.declared.firsts.Firsts.{Firsts}
+use Rattle.vd_value_rules.proofs.WalkLemmas.{filtered, firsts_are_least, least_alike}
+use Rattle.vd_value_rules.specs.Groups.{firsts_by, is_of_rules, judge_by, name_used, names_used}
+use Rattle.vd_value_rules.specs.declared.firsts.Firsts.{Firsts}
 use Rattle.vd_trees.specs.declared.revision.Revision.{Revision}
 use Rattle.vd_value_rules.specs.Designs.{Design, design_of}
 use Rattle.vd_value_rules.specs.Judging.{refused_if}

@@ -5,14 +5,14 @@ use Rattle.vd_bytes.specs.declared.answers.Refused.{Refused}
 use Rattle.vd_bytes.specs.declared.places.Place.{Place}
 use Rattle.vd_forest.specs.Forest.{Forest}
 use Rattle.vd_forms.specs.declared.form.Form.{Form}
-use Rattle.vd_least.specs.Least.{least}
+use Rattle.vd_walks.specs.Least.{least}
 use Rattle.vd_name_rules.specs.Judges.{view_judge}
 use Rattle.vd_port_modes.specs.Source.{Source, design_in}
 use Rattle.vd_resolved.specs.Trees.{ResolvedTree}
 use Rattle.vd_resolved.specs.declared.node.Resolved.{Resolved}
-use Rattle.vd_rule_groups.proofs.WalkLemmas.{firsts_of_names_alone, least_without_state}
-use Rattle.vd_rule_groups.specs.Groups.{firsts_by, is_of_rules, judge_by, view_ports}
-use Rattle.vd_rule_groups.specs.declared.firsts.Firsts.{Firsts}
+use Rattle.vd_value_rules.proofs.WalkLemmas.{firsts_of_names_alone, least_without_state}
+use Rattle.vd_value_rules.specs.Groups.{firsts_by, is_of_rules, judge_by, view_ports}
+use Rattle.vd_value_rules.specs.declared.firsts.Firsts.{Firsts}
 use Rattle.vd_trees.specs.declared.revision.Revision.{Revision}
 use Rattle.vd_value_rules.specs.Choices.{place_at}
 use Rattle.vd_value_rules.specs.Designs.{Design, design_of}

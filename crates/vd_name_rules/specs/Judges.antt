@@ -4,7 +4,7 @@ use Rattle.vd_bytes.specs.declared.answers.Refused.{Refused}
 use Rattle.vd_bytes.specs.declared.places.Place.{Place}
 use Rattle.vd_forest.specs.Forest.{Forest}
 use Rattle.vd_forms.specs.declared.form.Form.{Form}
-use Rattle.vd_least.specs.Least.{Judge}
+use Rattle.vd_walks.specs.Least.{Judge}
 use Rattle.vd_name_rules.specs.Coming.{behind, coming_by}
 use Rattle.vd_name_rules.specs.Rows.{row_of}
 use Rattle.vd_name_rules.specs.declared.coming.Coming.{Coming}

@@ -1,13 +1,13 @@
 //! What trees are to the node above them, as far as names in them are used.
 
 ghost use Rattle.std.specs.Prelude.{◌≡◌};
-ghost use Rattle.vd_facets.specs.Roles.{read_role};
+ghost use Rattle.vd_operations.specs.Roles.{read_role};
 ghost use Rattle.vd_name_rules.specs.Coming.{all_of as each_is, associated_parts as parts_of_element, behind as further, brackets as in_brackets, coming_by as coming_of_row, formal_or as formal_above, generics as in_generic_map, guarded as of_guarded, mapped_after_three as function_map, mapped_after_two as package_map, mapped_third as entity_map, outer as of_branches, passed as all_passed, passed_by, target as first_is_target, target_third as third_is_target};
 ghost use Rattle.vd_port_modes.specs.Source.{design_in};
 
 use crate::rows::Row;
-use vd_facets::Role;
 use vd_forest::Cursor;
+use vd_operations::Role;
 use vd_port_modes::Interfaces;
 use vd_resolved::Resolved;
 

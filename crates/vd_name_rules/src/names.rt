@@ -1,11 +1,11 @@
 //! Names where they are read, assigned or associated.
 
 ghost use Rattle.std.specs.Prelude.{◌≡◌, IfOk};
-ghost use Rattle.vd_least.specs.Least.{least_of};
+ghost use Rattle.vd_walks.specs.Least.{least_of};
 ghost use Rattle.vd_name_rules.specs.Judges.{name_judge, used as is_used, used_as_object as is_used_as_object, used_as_view as is_used_as_view, used_at as is_used_at};
 ghost use Rattle.vd_port_modes.specs.Readings.{read_reached};
 ghost use Rattle.vd_port_modes.specs.Source.{design_in};
-ghost use Rattle.vd_rule_groups.specs.Groups.{firsts_by, names_used};
+ghost use Rattle.vd_value_rules.specs.Groups.{firsts_by, names_used};
 
 use crate::coming::{Coming, Sort, all_of, behind, coming_by};
 use crate::rows::row_of;
@@ -13,13 +13,13 @@ use std::alloc::{AllocError, Global};
 use vd_bytes::{Place, Refused};
 use vd_forest::Opened;
 use vd_forms::Form;
-use vd_least::{Judging, find_least};
 use vd_port_modes::Interfaces;
 use vd_port_modes::places::{may_be_assigned, names_view_port, reads_out};
 use vd_port_modes::reaching::{Reached, reached_by};
 use vd_resolved::{Resolved, Tree};
-use vd_rule_groups::{Firsts, refused_if};
 use vd_trees::Revision;
+use vd_value_rules::{Firsts, refused_if};
+use vd_walks::{Judging, find_least};
 
 /// A port with a view that is named by itself.
 fn used_as_view(

@@ -1,10 +1,10 @@
 //! Ports with a view of another record than their subtype.
 
 ghost use Rattle.std.specs.Prelude.{◌≡◌, IfOk};
-ghost use Rattle.vd_least.specs.Least.{least_of};
+ghost use Rattle.vd_walks.specs.Least.{least_of};
 ghost use Rattle.vd_name_rules.specs.Judges.{view_judge};
 ghost use Rattle.vd_port_modes.specs.Source.{design_in};
-ghost use Rattle.vd_rule_groups.specs.Groups.{firsts_by, view_ports};
+ghost use Rattle.vd_value_rules.specs.Groups.{firsts_by, view_ports};
 ghost use Rattle.vd_value_rules.specs.Choices.{place_at as place_of_part};
 ghost use Rattle.vd_value_rules.specs.Knowledge.{meaning_at};
 ghost use Rattle.vd_value_rules.specs.Names.{are_other_types as other_types, broken_view_port as is_broken_view_port, subtype_mark as mark_of_subtype, type_of_mark as type_is_of_mark, view_type as type_of_view};
@@ -12,15 +12,15 @@ ghost use Rattle.vd_value_rules.specs.Names.{are_other_types as other_types, bro
 use std::alloc::{AllocError, Global};
 use vd_bytes::{Place, Refused};
 use vd_declarations::DeclId;
-use vd_facets::{declaration_of, is_present};
 use vd_forest::{Cursor, Opened};
 use vd_forms::Form;
-use vd_least::{Judging, find_least};
 use vd_operations::tables::mark_of;
+use vd_operations::{declaration_of, is_present};
 use vd_port_modes::Interfaces;
 use vd_resolved::{Resolved, Tree};
-use vd_rule_groups::{Firsts, refused_if};
 use vd_trees::Revision;
+use vd_value_rules::{Firsts, refused_if};
+use vd_walks::{Judging, find_least};
 
 /// The place of a part; the first place where there is none.
 fn place_at(number: u32, parts: &Cursor<'_, Resolved>) -> Place

@@ -5,9 +5,8 @@ ghost use Rattle.vd_naming.specs.Units.{instances_in as instances_of, with_insta
 
 use std::alloc::{AllocError, Global};
 use vd_declarations::{DeclId, RegionId};
-use vd_name_entering::note_bodies;
-use vd_name_lookup::Units;
-use vd_name_states::{Names, Sort};
+use vd_name_entering::{Units, note_bodies};
+use vd_name_rows::{Names, Sort};
 
 /// The functions that are instances among those that a region declares.
 pub fn instances_in(

@@ -3,19 +3,19 @@
 ghost use Rattle.std.specs.Prelude.{◌≡◌, ◌≤◌, IfOk, length};
 ghost use Rattle.vd_forest.specs.Store.{Extends};
 ghost use Rattle.vd_naming.specs.Units.{unit_ends as ending_of_unit, entity_ends as ending_of_entity, architecture_ends as ending_of_architecture, context_ends as ending_of_context};
-ghost use Rattle.vd_name_outcomes.specs.Made.{IsMade};
-ghost use Rattle.vd_name_outcomes.specs.Ended.{seen_ended};
-ghost use Rattle.vd_name_units.specs.Declared.{entity_declared, single_context_end};
+ghost use Rattle.vd_name_entering.specs.Made.{IsMade};
+ghost use Rattle.vd_name_entering.specs.Ended.{seen_ended};
+ghost use Rattle.vd_name_units.specs.UnitsDeclared.{entity_declared, single_context_end};
 
 use crate::entering::{enter_architecture, enter_unit, unit_at};
 use std::alloc::{AllocError, Global};
 use vd_declarations::{Class, DeclId, Declaration, Declarations};
 use vd_forest::{Cursor, Store};
 use vd_forms::Form;
-use vd_name_entering::{close, named_at};
-use vd_name_lookup::{region_inside, unit_named};
-use vd_name_outcomes::{Ended, Made, finished, is_single};
-use vd_name_states::{Names, Sort};
+use vd_name_entering::{
+    Ended, Made, close, finished, is_single, named_at, region_inside, unit_named,
+};
+use vd_name_rows::{Names, Sort};
 use vd_resolved::Resolved;
 
 /// A unit ends: all that it declares is declared inside.

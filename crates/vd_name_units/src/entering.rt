@@ -1,7 +1,7 @@
 //! Units as they are entered at their ends.
 
 ghost use Rattle.std.specs.Prelude.{◌≡◌, Some, None, IfOk};
-ghost use Rattle.vd_name_states.specs.Entering.{declaration_of as declaration_with};
+ghost use Rattle.vd_name_rows.specs.Entering.{declaration_of as declaration_with};
 ghost use Rattle.vd_naming.specs.Units.{entering_unit_in, entering_unit, entering_architecture, region_of_architectures};
 ghost use Rattle.vd_name_entering.specs.Entered.{IsEntered};
 
@@ -9,10 +9,10 @@ use crate::words::refused_word;
 use std::alloc::{AllocError, Global};
 use vd_bytes::Refused;
 use vd_declarations::{Class, Declaration, RegionId};
-use vd_given::numbers::REGION_OF_WORK;
-use vd_least::lesser;
 use vd_name_entering::{enter_as, named_at};
-use vd_name_states::{At, Names};
+use vd_name_rows::{At, Names};
+use vd_predefined::numbers::REGION_OF_WORK;
+use vd_walks::lesser;
 
 /// A declaration with the name that was read last at a place, and with a region inside.
 pub(crate) fn unit_at(

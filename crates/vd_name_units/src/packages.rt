@@ -3,9 +3,9 @@
 ghost use Rattle.std.specs.Prelude.{◌≡◌, ◌≤◌, Some, IfOk, OnOk, length};
 ghost use Rattle.vd_forest.specs.Store.{at, Holds, Extends};
 ghost use Rattle.vd_naming.specs.Units.{with_name as named_with, package_class as class_with, from_number as numbers_from, declared_besides as besides, with_instances_at_end, body_of_package, package_ends as ending_of_package, package_body_ends as ending_of_body};
-ghost use Rattle.vd_name_outcomes.specs.Made.{IsMade};
-ghost use Rattle.vd_name_outcomes.specs.Ended.{seen_ended};
-ghost use Rattle.vd_name_units.specs.Declared.{package_declared, with_own_span};
+ghost use Rattle.vd_name_entering.specs.Made.{IsMade};
+ghost use Rattle.vd_name_entering.specs.Ended.{seen_ended};
+ghost use Rattle.vd_name_units.specs.UnitsDeclared.{package_declared, with_own_span};
 
 use crate::bodies::note_instances_at_end;
 use crate::entering::{enter_unit, unit_at};
@@ -13,10 +13,10 @@ use std::alloc::{AllocError, Global};
 use vd_bytes::Text;
 use vd_declarations::{Class, DeclId, Declaration, Declarations, RegionId};
 use vd_forest::Store;
-use vd_name_entering::{close, note_body, note_span, span_to};
-use vd_name_lookup::{Units, unit_named};
-use vd_name_outcomes::{Ended, Made, finished};
-use vd_name_states::{Names, Sort};
+use vd_name_entering::{
+    Ended, Made, Units, close, finished, note_body, note_span, span_to, unit_named,
+};
+use vd_name_rows::{Names, Sort};
 use vd_resolved::Resolved;
 
 /// A forest whose first node names a declaration.

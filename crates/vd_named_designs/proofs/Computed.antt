@@ -5,7 +5,7 @@ use Rattle.std.specs.Fmt.{digits}
 use Rattle.std.specs.Prelude.{◌≡◌, codes}
 use Rattle.std.specs.Str.{is_utf8, chars}
 use Rattle.vd_trees.specs.declared.revision.Revision.TheVariants.{V2019}
-use Rattle.vd_given.specs.Table.{standard_types, standard_operators, logic_types, logic_operators}
+use Rattle.vd_predefined.specs.Table.{standard_types, standard_operators, logic_types, logic_operators}
 use Rattle.vd_regions.specs.InOrder.{visible_in, selected_in_order}
 use Rattle.vd_design_facts.specs.Designs.{traced}
 use Rattle.vd_package_facts.specs.Instances as resolved_instances

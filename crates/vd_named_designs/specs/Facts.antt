@@ -6,7 +6,7 @@ use Rattle.vd_forms.specs.declared.form.Form.{Form}
 use Rattle.vd_trees.specs.declared.revision.Revision.TheVariants.{V2019}
 use Rattle.vd_naming.specs.Naming.{names_of}
 use Rattle.vd_naming.specs.Settled.{resolved_tree}
-use Rattle.vd_weights.specs.Weights.{weight_of}
+use Rattle.vd_weighing.specs.Weights.{weight_of}
 use Rattle.vd_design_facts.specs.Designs.{traced}
 use Rattle.vd_package_facts.specs.Instances as resolved_instances
 use Rattle.vd_package_facts.specs.FunctionInstances as resolved_function_instances

@@ -9,7 +9,7 @@ use Rattle.vd_declarations.specs.declared.declarations.Declaration.{Declaration}
 use Rattle.vd_forest.specs.Forest.{Forest, nothing, more, next_of}
 use Rattle.vd_forms.specs.declared.form.Form.{Form}
 use Rattle.vd_forms.specs.declared.form.Form.TheVariants as form
-use Rattle.vd_given.specs.declared.numbers.TheConstants.{BOOLEAN}
+use Rattle.vd_predefined.specs.declared.numbers.TheConstants.{BOOLEAN}
 use Rattle.vd_overloads.specs.Interpretations.{first_place}
 use Rattle.vd_overloads.specs.declared.wanted.Wanted.TheVariants as wanted
 use Rattle.vd_refusals.specs.Refusals.{first_refusal}
@@ -18,15 +18,15 @@ use Rattle.vd_regions.specs.Homographs.{same_types}
 use Rattle.vd_regions.specs.Scopes.{declaration_at}
 use Rattle.vd_resolved.specs.declared.node.Resolved.{Resolved}
 use Rattle.vd_states.specs.declared.states.Want.TheVariants as want
-use Rattle.vd_sights.specs.declared.roles.Role.{Role}
-use Rattle.vd_sights.specs.declared.roles.Role.TheVariants as role
-use Rattle.vd_sights.specs.Kinds.{role_of}
-use Rattle.vd_sights.specs.Sights.{Sight, class_of, mark_of, parameters_of}
+use Rattle.vd_visible.specs.declared.roles.Role.{Role}
+use Rattle.vd_visible.specs.declared.roles.Role.TheVariants as role
+use Rattle.vd_visible.specs.Kinds.{role_of}
+use Rattle.vd_visible.specs.Sights.{Sight, class_of, mark_of, parameters_of}
 use Rattle.vd_ways.specs.Ways.{symbol_name, selection_name}
-use Rattle.vd_name_states.specs.declared.at.Actual.{Actual}
-use Rattle.vd_name_states.specs.Designs.{At, Design, Outcome, sight, gives}
-use Rattle.vd_name_states.specs.Noting.{has_body}
-use Rattle.vd_name_states.specs.Refusals.{lesser, broken, broken_if}
+use Rattle.vd_name_rows.specs.declared.at.Actual.{Actual}
+use Rattle.vd_name_rows.specs.Designs.{At, Design, Outcome, sight, gives}
+use Rattle.vd_name_rows.specs.Noting.{has_body}
+use Rattle.vd_name_rows.specs.Refusals.{lesser, broken, broken_if}
 use Rattle.vd_naming.specs.Edges.{is_edge_function}
 use Rattle.vd_naming.specs.Pieces.{refused_pieces}
 use Rattle.vd_naming.specs.Expressions.{resolved, unresolved, only_reading, refused_unless_one, mark_readings, mark_declared, type_declared, read_as_mark, where_known, with_mark}

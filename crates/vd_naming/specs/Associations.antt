@@ -5,10 +5,10 @@ use Rattle.vd_bytes.specs.declared.places.Place.{Place}
 use Rattle.vd_forest.specs.Forest.{Forest, nothing, more, parts_of, next_of, with_next}
 use Rattle.vd_forms.specs.declared.form.Form.{Form}
 use Rattle.vd_forms.specs.declared.form.Form.TheVariants as form
-use Rattle.vd_sights.specs.Lists.{simple_name}
+use Rattle.vd_visible.specs.Lists.{simple_name}
 use Rattle.vd_ways.specs.Ways.{symbol_name}
-use Rattle.vd_name_states.specs.Designs.{Design}
-use Rattle.vd_name_states.specs.declared.sorts.Sort.TheVariants as sort
+use Rattle.vd_name_rows.specs.Designs.{Design}
+use Rattle.vd_name_rows.specs.declared.sorts.Sort.TheVariants as sort
 use Rattle.vd_naming.specs.Paths.{is_some}
 use Rattle.vd_naming.specs.Units.{first_of, found_inside, region_inside}
 use Rattle.vd_naming.specs.Statements.{alone}

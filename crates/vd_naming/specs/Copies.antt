@@ -10,13 +10,13 @@ use Rattle.vd_declarations.specs.declared.classes.Made.TheVariants as made
 use Rattle.vd_declarations.specs.declared.declarations.Declaration.{Declaration}
 use Rattle.vd_regions.specs.Scopes.{Scopes, Region, declaration_at}
 use Rattle.vd_regions.specs.declared.entries.Entered.{Entered}
-use Rattle.vd_sights.specs.Sights.{Sight}
-use Rattle.vd_name_states.specs.Designs.{Design, note_at, with_note, with_scopes}
-use Rattle.vd_name_states.specs.Noting.{span_at, has_bounds}
-use Rattle.vd_name_states.specs.declared.at.Actual.{Actual}
-use Rattle.vd_name_states.specs.declared.notes.Note.{Note}
-use Rattle.vd_name_states.specs.Members.{next_number, next_region}
-use Rattle.vd_name_states.specs.declared.notes.Span.{Span}
+use Rattle.vd_visible.specs.Sights.{Sight}
+use Rattle.vd_name_rows.specs.Designs.{Design, note_at, with_note, with_scopes}
+use Rattle.vd_name_rows.specs.Noting.{span_at, has_bounds}
+use Rattle.vd_name_rows.specs.declared.at.Actual.{Actual}
+use Rattle.vd_name_rows.specs.declared.notes.Note.{Note}
+use Rattle.vd_name_rows.specs.Members.{next_number, next_region}
+use Rattle.vd_name_rows.specs.declared.notes.Span.{Span}
 use Rattle.vd_naming.specs.Functions.{as_in}
 use Rattle.vd_naming.specs.Associations.{is_among_numbers}
 use Rattle.vd_naming.specs.Actuals.{Known, actual_of, type_in}

@@ -3,18 +3,18 @@ use Rattle.std.specs.Prelude.{ℕ, ◌==◌, Bool, true, false, ◌&&◌, ◌||�
 use Rattle.std.specs.Str.{bytes_eq}
 use Rattle.vd_bytes.specs.declared.answers.Refused.{Refused}
 use Rattle.vd_bytes.specs.declared.places.Place.{Place}
-use Rattle.vd_finding.specs.Finding.{Finder, first_found}
+use Rattle.vd_walks.specs.Finding.{Finder, first_found}
 use Rattle.vd_forest.specs.Forest.{Forest, nothing, more, next_of}
 use Rattle.vd_forms.specs.declared.form.Form.{Form}
 use Rattle.vd_forms.specs.declared.form.Form.TheVariants as form
-use Rattle.vd_given.specs.declared.numbers.TheConstants.{REGION_OF_1164}
+use Rattle.vd_predefined.specs.declared.numbers.TheConstants.{REGION_OF_1164}
 use Rattle.vd_regions.specs.Scopes.{Scopes, entered_at, declaration_at}
 use Rattle.vd_regions.specs.declared.entries.Entered.{Entered}
 use Rattle.vd_resolved.specs.declared.node.Resolved.{Resolved}
-use Rattle.vd_sights.specs.declared.roles.Role.{Role}
-use Rattle.vd_sights.specs.declared.roles.Role.TheVariants as role
-use Rattle.vd_sights.specs.Kinds.{role_of}
-use Rattle.vd_name_states.specs.Refusals.{broken_if}
+use Rattle.vd_visible.specs.declared.roles.Role.{Role}
+use Rattle.vd_visible.specs.declared.roles.Role.TheVariants as role
+use Rattle.vd_visible.specs.Kinds.{role_of}
+use Rattle.vd_name_rows.specs.Refusals.{broken_if}
 
 -- one of the two functions of `ieee.std_logic_1164`
 abbrev pub is_edge_name : List ℕ → Bool

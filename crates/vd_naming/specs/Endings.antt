@@ -10,18 +10,18 @@ use Rattle.vd_forest.specs.Forest.{Forest, nothing, more, form_of, parts_of, nex
 use Rattle.vd_forms.specs.declared.form.Form.{Form}
 use Rattle.vd_forms.specs.declared.form.Form.TheVariants as form
 use Rattle.vd_forms.specs.Forms.{same_form}
-use Rattle.vd_given.specs.Operators.{with_operators_of}
-use Rattle.vd_given.specs.Given.{with_end}
+use Rattle.vd_predefined.specs.Operators.{with_operators_of}
+use Rattle.vd_predefined.specs.Given.{with_end}
 use Rattle.vd_regions.specs.Scopes.{declaration_at}
 use Rattle.vd_resolved.specs.declared.node.Resolved.{Resolved}
-use Rattle.vd_sights.specs.Types.{is_scalar, element_of}
-use Rattle.vd_name_states.specs.Noting.{has_bounds, with_bounds, with_formal}
-use Rattle.vd_name_states.specs.declared.sorts.Sort.TheVariants as sort
-use Rattle.vd_name_states.specs.Designs.{At, Design, Outcome, with_scopes}
-use Rattle.vd_name_states.specs.Entering.{Word, words_of, words_in, numbered, declaration_of, Entering, entering, then_entering, nothing_entering, entering_words}
-use Rattle.vd_name_states.specs.Members.{next_number, declared_in}
-use Rattle.vd_name_states.specs.Refusals.{lesser, broken_if}
-use Rattle.vd_name_states.specs.declared.notes.Formal.{Formal}
+use Rattle.vd_visible.specs.Types.{is_scalar, element_of}
+use Rattle.vd_name_rows.specs.Noting.{has_bounds, with_bounds, with_formal}
+use Rattle.vd_name_rows.specs.declared.sorts.Sort.TheVariants as sort
+use Rattle.vd_name_rows.specs.Designs.{At, Design, Outcome, with_scopes}
+use Rattle.vd_name_rows.specs.Entering.{Word, words_of, words_in, numbered, declaration_of, Entering, entering, then_entering, nothing_entering, entering_words}
+use Rattle.vd_name_rows.specs.Members.{next_number, declared_in}
+use Rattle.vd_name_rows.specs.Refusals.{lesser, broken_if}
+use Rattle.vd_name_rows.specs.declared.notes.Formal.{Formal}
 use Rattle.vd_naming.specs.Expressions.{resolved, mark_of}
 use Rattle.vd_naming.specs.Paths.{is_some}
 

@@ -5,7 +5,7 @@ use Rattle.vd_bytes.specs.declared.places.Place.{Place}
 use Rattle.vd_forest.specs.Forest.{Forest, nothing, more, joined, parts_of, next_of}
 use Rattle.vd_forms.specs.declared.form.Form.{Form}
 use Rattle.vd_forms.specs.declared.form.Form.TheVariants as form
-use Rattle.vd_given.specs.declared.numbers.TheConstants.{BOOLEAN, BIT, STD_ULOGIC}
+use Rattle.vd_predefined.specs.declared.numbers.TheConstants.{BOOLEAN, BIT, STD_ULOGIC}
 use Rattle.vd_readings.specs.Readings.{readings_in}
 use Rattle.vd_refusals.specs.Refusals.{first_refusal}
 use Rattle.vd_resolved.specs.declared.node.Resolved.{Resolved}
@@ -13,16 +13,16 @@ use Rattle.vd_rewriting.specs.Forms.{with_forms}
 use Rattle.vd_states.specs.declared.states.State.{State}
 use Rattle.vd_states.specs.declared.states.State.TheVariants as state
 use Rattle.vd_states.specs.declared.states.Want.TheVariants as want
-use Rattle.vd_sights.specs.Sights.{Sight, class_of}
-use Rattle.vd_sights.specs.Types.{all_types, is_discrete, index_of, element_of, type_meant}
+use Rattle.vd_visible.specs.Sights.{Sight, class_of}
+use Rattle.vd_visible.specs.Types.{all_types, is_discrete, index_of, element_of, type_meant}
 use Rattle.vd_overloads.specs.Environment.{rules_at, scene_at}
 use Rattle.vd_overloads.specs.Interpretations.{alone, first_place, interpretations, refusal}
 use Rattle.vd_overloads.specs.declared.wanted.Wanted.{Wanted}
 use Rattle.vd_overloads.specs.declared.wanted.Wanted.TheVariants as wanted
-use Rattle.vd_name_states.specs.declared.steps.Want as step
-use Rattle.vd_name_states.specs.declared.steps.Want.TheVariants as places
-use Rattle.vd_name_states.specs.Designs.{At, Design, Outcome, standpoint, sight, gives}
-use Rattle.vd_name_states.specs.Refusals.{lesser, broken}
+use Rattle.vd_name_rows.specs.declared.steps.Want as step
+use Rattle.vd_name_rows.specs.declared.steps.Want.TheVariants as places
+use Rattle.vd_name_rows.specs.Designs.{At, Design, Outcome, standpoint, sight, gives}
+use Rattle.vd_name_rows.specs.Refusals.{lesser, broken}
 use Rattle.vd_naming.specs.Pieces.{refused_pieces}
 use Rattle.vd_naming.specs.Edges.{edge_of_no_signal}
 

@@ -1,9 +1,9 @@
 -- What the one declaration has to be that a name means. (IEEE 1076, selected names)
 use Rattle.std.specs.Prelude.{ℕ, Bool, true}
 use Rattle.vd_regions.specs.Scopes.{declaration_at}
-use Rattle.vd_sights.specs.Sights.{Sight}
-use Rattle.vd_name_states.specs.Designs.{Design}
-use Rattle.vd_name_states.specs.Noting.{is_loop_label}
+use Rattle.vd_visible.specs.Sights.{Sight}
+use Rattle.vd_name_rows.specs.Designs.{Design}
+use Rattle.vd_name_rows.specs.Noting.{is_loop_label}
 use Rattle.vd_naming.specs.Paths.{is_mark, is_package, is_context, is_entity}
 use Rattle.vd_naming.specs.Views.{is_view}
 use Rattle.vd_naming.specs.declared.fit.Fit.{Fit}

@@ -14,14 +14,14 @@ use Rattle.vd_forms.specs.declared.form.Form.TheVariants as form
 use Rattle.vd_regions.specs.Homographs.{same_type, same_types, parameter_types}
 use Rattle.vd_regions.specs.Scopes.{region_at, entered_at, declaration_at, continued}
 use Rattle.vd_resolved.specs.declared.node.Resolved.{Resolved}
-use Rattle.vd_name_states.specs.declared.sorts.Sort.TheVariants as sort
-use Rattle.vd_name_states.specs.Designs.{At, Design, Outcome}
-use Rattle.vd_name_states.specs.Entering.{Word, declaration_of, Entering, entering}
-use Rattle.vd_name_states.specs.Members.{next_number, next_region, declared_in}
-use Rattle.vd_name_states.specs.Noting.{span_at, with_span, span_to, with_body, has_body, tied_to, with_formal}
-use Rattle.vd_name_states.specs.Words.{declared_name}
-use Rattle.vd_name_states.specs.declared.notes.Span.{Span}
-use Rattle.vd_name_states.specs.declared.notes.Taken.{Taken}
+use Rattle.vd_name_rows.specs.declared.sorts.Sort.TheVariants as sort
+use Rattle.vd_name_rows.specs.Designs.{At, Design, Outcome}
+use Rattle.vd_name_rows.specs.Entering.{Word, declaration_of, Entering, entering}
+use Rattle.vd_name_rows.specs.Members.{next_number, next_region, declared_in}
+use Rattle.vd_name_rows.specs.Noting.{span_at, with_span, span_to, with_body, has_body, tied_to, with_formal}
+use Rattle.vd_name_rows.specs.Words.{declared_name}
+use Rattle.vd_name_rows.specs.declared.notes.Span.{Span}
+use Rattle.vd_name_rows.specs.declared.notes.Taken.{Taken}
 use Rattle.vd_naming.specs.Endings.{Ended, word_of, declares, finished, with_operators, noted, form_at, is_form}
 
 -- ---- headers

@@ -8,11 +8,11 @@ use Rattle.vd_forest.specs.Forest.{Forest, nothing, more, joined, parts_of}
 use Rattle.vd_forms.specs.declared.form.Form.{Form}
 use Rattle.vd_forms.specs.declared.form.Form.TheVariants as form
 use Rattle.vd_regions.specs.Scopes.{declaration_at}
-use Rattle.vd_sights.specs.Sights.{class_of, name_of}
-use Rattle.vd_name_states.specs.declared.at.Actual.{Actual}
-use Rattle.vd_name_states.specs.Designs.{At, Design, Outcome, sight, gives}
-use Rattle.vd_name_states.specs.Noting.{formal_at}
-use Rattle.vd_name_states.specs.Refusals.{lesser, broken, broken_if}
+use Rattle.vd_visible.specs.Sights.{class_of, name_of}
+use Rattle.vd_name_rows.specs.declared.at.Actual.{Actual}
+use Rattle.vd_name_rows.specs.Designs.{At, Design, Outcome, sight, gives}
+use Rattle.vd_name_rows.specs.Noting.{formal_at}
+use Rattle.vd_name_rows.specs.Refusals.{lesser, broken, broken_if}
 use Rattle.vd_naming.specs.Selected.{Meant, Means, Breaks, is_uninstantiated}
 use Rattle.vd_naming.specs.Expressions.{resolved, unresolved}
 use Rattle.vd_naming.specs.Paths.{one_that, path_meant, path_outside, prefix_pieces, named_path, refused_path, with_named, is_some}

@@ -3,10 +3,10 @@ use Rattle.std.specs.Prelude.{ℕ, Bool, false, not, Option, Some, None}
 use Rattle.vd_forest.specs.Forest.{Forest}
 use Rattle.vd_forms.specs.declared.form.Form.{Form}
 use Rattle.vd_overloads.specs.Interpretations.{first_place}
-use Rattle.vd_sights.specs.Sights.{Sight}
-use Rattle.vd_name_states.specs.declared.steps.Want.TheVariants as want
-use Rattle.vd_name_states.specs.Designs.{At, Design, Outcome, sight}
-use Rattle.vd_name_states.specs.Refusals.{lesser, broken_if}
+use Rattle.vd_visible.specs.Sights.{Sight}
+use Rattle.vd_name_rows.specs.declared.steps.Want.TheVariants as want
+use Rattle.vd_name_rows.specs.Designs.{At, Design, Outcome, sight}
+use Rattle.vd_name_rows.specs.Refusals.{lesser, broken_if}
 use Rattle.vd_naming.specs.Expressions.{expression, at_hand, read_as_mark, mark_declared, type_declared, discrete_class}
 
 -- a discrete range

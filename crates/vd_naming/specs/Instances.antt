@@ -12,11 +12,11 @@ use Rattle.vd_text_rules.specs.Designators.{is_operator}
 use Rattle.vd_trees.specs.declared.revision.Revision.{Revision}
 use Rattle.vd_regions.specs.Scopes.{declaration_at}
 use Rattle.vd_forest.specs.Forest.{Forest, more, skipped}
-use Rattle.vd_name_states.specs.declared.at.Actual.{Actual}
-use Rattle.vd_name_states.specs.Designs.{Design, Outcome, sight}
-use Rattle.vd_name_states.specs.Entering.{declaration_of, entering}
-use Rattle.vd_name_states.specs.Noting.{has_body, with_body, is_instance, as_instance, is_tied_elsewhere}
-use Rattle.vd_name_states.specs.Refusals.{lesser, broken_if}
+use Rattle.vd_name_rows.specs.declared.at.Actual.{Actual}
+use Rattle.vd_name_rows.specs.Designs.{Design, Outcome, sight}
+use Rattle.vd_name_rows.specs.Entering.{declaration_of, entering}
+use Rattle.vd_name_rows.specs.Noting.{has_body, with_body, is_instance, as_instance, is_tied_elsewhere}
+use Rattle.vd_name_rows.specs.Refusals.{lesser, broken_if}
 use Rattle.vd_naming.specs.Paths.{is_some}
 use Rattle.vd_naming.specs.Endings.{Ended, finished, word_of, entered}
 use Rattle.vd_naming.specs.Functions.{is_written_function}

@@ -6,20 +6,20 @@ use Rattle.vd_forest.specs.Forest.{Forest, no_place}
 use Rattle.vd_forms.specs.declared.form.Form.{Form}
 use Rattle.vd_forms.specs.declared.form.Form.TheVariants as form
 use Rattle.vd_forms.specs.Forms.{is_among, expressions}
-use Rattle.vd_given.specs.declared.numbers.TheConstants.{REGION_OF_LIBRARIES}
-use Rattle.vd_given.specs.Given.{given_scopes}
+use Rattle.vd_predefined.specs.declared.numbers.TheConstants.{REGION_OF_LIBRARIES}
+use Rattle.vd_predefined.specs.Given.{given_scopes}
 use Rattle.vd_regions.specs.Scopes.{Scopes}
 use Rattle.vd_trees.specs.declared.revision.Revision.{Revision}
 use Rattle.vd_resolved.specs.declared.node.Resolved.{Resolved}
-use Rattle.vd_name_states.specs.Designs.{At, Design, Outcome, begin_design, refused_too}
-use Rattle.vd_name_states.specs.Rows.{row_of, class_of}
-use Rattle.vd_name_states.specs.Members.{next_number}
-use Rattle.vd_name_states.specs.declared.steps.Step.{Step}
-use Rattle.vd_name_states.specs.declared.steps.Step.TheVariants as step
-use Rattle.vd_name_states.specs.declared.steps.Want.TheVariants as want
-use Rattle.vd_name_states.specs.declared.steps.Ending.{Ending}
-use Rattle.vd_name_states.specs.declared.steps.Ending.TheVariants as ending
-use Rattle.vd_walking.specs.Walking.{Walker, Entry, Done, Inside, walked}
+use Rattle.vd_name_rows.specs.Designs.{At, Design, Outcome, begin_design, refused_too}
+use Rattle.vd_name_rows.specs.Rows.{row_of, class_of}
+use Rattle.vd_name_rows.specs.Members.{next_number}
+use Rattle.vd_name_rows.specs.declared.steps.Step.{Step}
+use Rattle.vd_name_rows.specs.declared.steps.Step.TheVariants as step
+use Rattle.vd_name_rows.specs.declared.steps.Want.TheVariants as want
+use Rattle.vd_name_rows.specs.declared.steps.Ending.{Ending}
+use Rattle.vd_name_rows.specs.declared.steps.Ending.TheVariants as ending
+use Rattle.vd_walks.specs.Walking.{Walker, Entry, Done, Inside, walked}
 use Rattle.vd_naming.specs.Expressions.{expression, target, selector}
 use Rattle.vd_naming.specs.Paths.{mark}
 use Rattle.vd_naming.specs.Endings.{Ended, nothing_ends, first_ends, typed_ends, objects_end, ports_end, indication_ends, type_ends, subtype_ends}

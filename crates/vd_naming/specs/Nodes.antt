@@ -6,7 +6,7 @@ use Rattle.vd_forms.specs.declared.form.Form.{Form}
 use Rattle.vd_resolved.specs.declared.node.Resolved.{Resolved}
 use Rattle.vd_rewriting.specs.Forms.{forms_pass}
 use Rattle.vd_rewriting.specs.Inheriting.{Rules, rules_of}
-use Rattle.vd_name_states.specs.Designs.{At, Design, Outcome, sight}
+use Rattle.vd_name_rows.specs.Designs.{At, Design, Outcome, sight}
 use Rattle.vd_naming.specs.Expressions.{resolved}
 use Rattle.vd_naming.specs.Paths.{named_as}
 use Rattle.vd_naming.specs.declared.fit.Fit.{Fit}

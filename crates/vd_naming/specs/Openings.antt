@@ -7,17 +7,17 @@ use Rattle.vd_forest.specs.Forest.{Forest, nothing, more, next_of, text_of, plac
 use Rattle.vd_forms.specs.declared.form.Form.{Form}
 use Rattle.vd_forms.specs.declared.form.Form.TheVariants as form
 use Rattle.vd_forms.specs.Forms.{same_form}
-use Rattle.vd_given.specs.declared.numbers.TheConstants.{REGION_OF_LIBRARIES}
-use Rattle.vd_given.specs.Entries.{with_region}
-use Rattle.vd_name_states.specs.Rows.{Row, row_of}
-use Rattle.vd_name_states.specs.declared.sorts.Sort.TheVariants as sort
-use Rattle.vd_name_states.specs.declared.steps.Opening.{Opening}
-use Rattle.vd_name_states.specs.declared.steps.Opening.TheVariants as opening
-use Rattle.vd_name_states.specs.Designs.{At, Design, with_scopes}
-use Rattle.vd_name_states.specs.Entering.{with_part}
-use Rattle.vd_name_states.specs.Members.{next_number, next_region}
-use Rattle.vd_name_states.specs.Noting.{has_body, with_bodies}
-use Rattle.vd_name_states.specs.Refusals.{lesser, broken_if}
+use Rattle.vd_predefined.specs.declared.numbers.TheConstants.{REGION_OF_LIBRARIES}
+use Rattle.vd_predefined.specs.Entries.{with_region}
+use Rattle.vd_name_rows.specs.Rows.{Row, row_of}
+use Rattle.vd_name_rows.specs.declared.sorts.Sort.TheVariants as sort
+use Rattle.vd_name_rows.specs.declared.steps.Opening.{Opening}
+use Rattle.vd_name_rows.specs.declared.steps.Opening.TheVariants as opening
+use Rattle.vd_name_rows.specs.Designs.{At, Design, with_scopes}
+use Rattle.vd_name_rows.specs.Entering.{with_part}
+use Rattle.vd_name_rows.specs.Members.{next_number, next_region}
+use Rattle.vd_name_rows.specs.Noting.{has_body, with_bodies}
+use Rattle.vd_name_rows.specs.Refusals.{lesser, broken_if}
 use Rattle.vd_naming.specs.Paths.{refused_path}
 use Rattle.vd_naming.specs.Endings.{form_of_next}
 use Rattle.vd_naming.specs.Units.{is_library_word, no_unit, unit_named, region_inside, round_unit, instances_in}

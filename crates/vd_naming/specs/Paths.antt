@@ -9,12 +9,12 @@ use Rattle.vd_forest.specs.Forest.{Forest, nothing, more, parts_of}
 use Rattle.vd_forms.specs.declared.form.Form.{Form}
 use Rattle.vd_regions.specs.Scopes.{Scopes}
 use Rattle.vd_resolved.specs.declared.node.Resolved.{Resolved}
-use Rattle.vd_sights.specs.Kinds.{kind_of}
-use Rattle.vd_sights.specs.Sights.{Sight}
-use Rattle.vd_sights.specs.Types.{type_meant}
+use Rattle.vd_visible.specs.Kinds.{kind_of}
+use Rattle.vd_visible.specs.Sights.{Sight}
+use Rattle.vd_visible.specs.Types.{type_meant}
 use Rattle.vd_ways.specs.Ways.{selected_name}
-use Rattle.vd_name_states.specs.Designs.{At, Design, Outcome, sight}
-use Rattle.vd_name_states.specs.Refusals.{lesser, broken, broken_if}
+use Rattle.vd_name_rows.specs.Designs.{At, Design, Outcome, sight}
+use Rattle.vd_name_rows.specs.Refusals.{lesser, broken, broken_if}
 use Rattle.vd_naming.specs.Expressions.{resolved, unresolved}
 use Rattle.vd_naming.specs.Selected.{Meant, Means, Breaks, some_or, meant_behind, means_outside}
 

@@ -4,16 +4,16 @@ use Rattle.std.specs.Prelude.{ℕ, Bool, false, ◌&&◌, not, [], ◌∷◌, Op
 use Rattle.std.specs.Option.{unwrap_or}
 use Rattle.vd_bytes.specs.declared.answers.Refused.{Refused}
 use Rattle.vd_bytes.specs.declared.places.Place.{Place}
-use Rattle.vd_finding.specs.Finding.{Finder, first_found}
+use Rattle.vd_walks.specs.Finding.{Finder, first_found}
 use Rattle.vd_forest.specs.Forest.{Forest, nothing, more, place_of}
 use Rattle.vd_forms.specs.declared.form.Form.{Form}
 use Rattle.vd_forms.specs.declared.form.Form.TheVariants as form
-use Rattle.vd_sights.specs.Sights.{Sight, class_of}
-use Rattle.vd_sights.specs.Types.{element_of, type_meant}
+use Rattle.vd_visible.specs.Sights.{Sight, class_of}
+use Rattle.vd_visible.specs.Types.{element_of, type_meant}
 use Rattle.vd_ways.specs.Ways.{selection_name}
-use Rattle.vd_name_states.specs.Noting.{has_bounds}
-use Rattle.vd_name_states.specs.Designs.{Design}
-use Rattle.vd_name_states.specs.Refusals.{lesser, broken_if}
+use Rattle.vd_name_rows.specs.Noting.{has_bounds}
+use Rattle.vd_name_rows.specs.Designs.{Design}
+use Rattle.vd_name_rows.specs.Refusals.{lesser, broken_if}
 use Rattle.vd_naming.specs.Selected.{Meant, Means, Breaks, some_or, meant_behind, means_outside}
 
 -- ---- the pieces of a name: points, and then others, behind which nothing is known here

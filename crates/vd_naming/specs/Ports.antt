@@ -16,12 +16,12 @@ use Rattle.vd_regions.specs.Scopes.{declaration_at}
 use Rattle.vd_resolved.specs.declared.node.Resolved.{Resolved}
 use Rattle.vd_overloads.specs.Interpretations.{first_place}
 use Rattle.vd_overloads.specs.declared.wanted.Wanted.TheVariants as wanted
-use Rattle.vd_sights.specs.Lists.{simple_name}
-use Rattle.vd_sights.specs.Sights.{port_in}
-use Rattle.vd_name_states.specs.Noting.{formal_at}
-use Rattle.vd_name_states.specs.declared.sorts.Sort.TheVariants as sort
-use Rattle.vd_name_states.specs.Designs.{At, Design, Outcome, gives}
-use Rattle.vd_name_states.specs.Refusals.{lesser, broken, broken_if}
+use Rattle.vd_visible.specs.Lists.{simple_name}
+use Rattle.vd_visible.specs.Sights.{port_in}
+use Rattle.vd_name_rows.specs.Noting.{formal_at}
+use Rattle.vd_name_rows.specs.declared.sorts.Sort.TheVariants as sort
+use Rattle.vd_name_rows.specs.Designs.{At, Design, Outcome, gives}
+use Rattle.vd_name_rows.specs.Refusals.{lesser, broken, broken_if}
 use Rattle.vd_naming.specs.Expressions.{resolved, unresolved, mark_of, read_as, refused_names}
 use Rattle.vd_naming.specs.Selected.{Breaks}
 use Rattle.vd_naming.specs.Paths.{named_as, refused_path, is_entity, is_some}

@@ -5,10 +5,10 @@ use Rattle.vd_declarations.specs.declared.classes.Class.{Class}
 use Rattle.vd_declarations.specs.declared.classes.Class.TheVariants as class
 use Rattle.vd_refusals.specs.Seen.{missing_in}
 use Rattle.vd_regions.specs.Scopes.{Scopes, chain, declaration_at}
-use Rattle.vd_sights.specs.declared.roles.Role.{Role}
-use Rattle.vd_sights.specs.declared.roles.Role.TheVariants as role
-use Rattle.vd_sights.specs.Kinds.{role_of}
-use Rattle.vd_sights.specs.Sights.{Sight, class_of}
+use Rattle.vd_visible.specs.declared.roles.Role.{Role}
+use Rattle.vd_visible.specs.declared.roles.Role.TheVariants as role
+use Rattle.vd_visible.specs.Kinds.{role_of}
+use Rattle.vd_visible.specs.Sights.{Sight, class_of}
 
 pub data Meant : Type 0 where
   Means : (declarations : List ℕ) → Meant

@@ -6,8 +6,8 @@ use Rattle.vd_declarations.specs.declared.declarations.Declaration.{Declaration}
 use Rattle.vd_resolved.specs.Trees.{ResolvedTree}
 use Rattle.vd_resolved.specs.declared.node.Resolved.{Resolved}
 use Rattle.vd_rewriting.specs.Forms.{with_forms}
-use Rattle.vd_name_states.specs.Designs.{Outcome}
-use Rattle.vd_name_states.specs.declared.notes.Taken.{Taken}
+use Rattle.vd_name_rows.specs.Designs.{Outcome}
+use Rattle.vd_name_rows.specs.declared.notes.Taken.{Taken}
 
 abbrev pub is_taken : ℕ → Taken → Bool
 is_taken n t = not (nat_lt n t.first) && nat_lt n t.end

@@ -6,13 +6,13 @@ use Rattle.vd_declarations.specs.declared.classes.Class.TheVariants as class
 use Rattle.vd_forest.specs.Forest.{Forest, nothing, more, tree_count, parts_of, text_of}
 use Rattle.vd_forms.specs.declared.form.Form.{Form}
 use Rattle.vd_forms.specs.declared.form.Form.TheVariants as form
-use Rattle.vd_name_states.specs.Noting.{with_loop, is_loop_label}
-use Rattle.vd_name_states.specs.declared.steps.Want.TheVariants as want
-use Rattle.vd_name_states.specs.Designs.{At, Design, Outcome, sight, gives}
-use Rattle.vd_name_states.specs.Entering.{numbered, declaration_of, entering}
-use Rattle.vd_name_states.specs.Members.{next_number}
-use Rattle.vd_name_states.specs.Refusals.{lesser, broken_if}
-use Rattle.vd_name_states.specs.Words.{declared_name}
+use Rattle.vd_name_rows.specs.Noting.{with_loop, is_loop_label}
+use Rattle.vd_name_rows.specs.declared.steps.Want.TheVariants as want
+use Rattle.vd_name_rows.specs.Designs.{At, Design, Outcome, sight, gives}
+use Rattle.vd_name_rows.specs.Entering.{numbered, declaration_of, entering}
+use Rattle.vd_name_rows.specs.Members.{next_number}
+use Rattle.vd_name_rows.specs.Refusals.{lesser, broken_if}
+use Rattle.vd_name_rows.specs.Words.{declared_name}
 use Rattle.vd_naming.specs.Expressions.{resolved, unresolved, at_hand, expression, names_or}
 use Rattle.vd_naming.specs.Selected.{Meant, some_or}
 use Rattle.vd_naming.specs.Paths.{one_that, refused_path}

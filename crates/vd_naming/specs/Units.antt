@@ -11,19 +11,19 @@ use Rattle.vd_declarations.specs.declared.declarations.Declaration.{Declaration}
 use Rattle.vd_forest.specs.Forest.{Forest, nothing, more, parts_of, next_of, text_of}
 use Rattle.vd_forms.specs.declared.form.Form.{Form}
 use Rattle.vd_forms.specs.declared.form.Form.TheVariants as form
-use Rattle.vd_given.specs.declared.numbers.TheConstants.{WORK, STD, IEEE, REGION_OF_LIBRARIES, REGION_OF_WORK}
+use Rattle.vd_predefined.specs.declared.numbers.TheConstants.{WORK, STD, IEEE, REGION_OF_LIBRARIES, REGION_OF_WORK}
 use Rattle.vd_regions.specs.Scopes.{region_at, declaration_at, with_clause, with_clauses}
 use Rattle.vd_resolved.specs.declared.node.Resolved.{Resolved}
-use Rattle.vd_sights.specs.Kinds.{kind_of}
-use Rattle.vd_sights.specs.Sights.{Sight}
+use Rattle.vd_visible.specs.Kinds.{kind_of}
+use Rattle.vd_visible.specs.Sights.{Sight}
 use Rattle.vd_ways.specs.Ways.{selected_name}
-use Rattle.vd_name_states.specs.declared.sorts.Sort.{Sort}
-use Rattle.vd_name_states.specs.declared.sorts.Sort.TheVariants as sort
-use Rattle.vd_name_states.specs.Designs.{At, Design, Outcome, sight, gives, with_scopes}
-use Rattle.vd_name_states.specs.Entering.{declaration_of, Entering, entering, entering_as, then_entering, nothing_entering}
-use Rattle.vd_name_states.specs.Members.{next_number, declared_in}
-use Rattle.vd_name_states.specs.Noting.{with_span, span_to, with_body, with_bodies, is_instance}
-use Rattle.vd_name_states.specs.Refusals.{lesser, broken, broken_if}
+use Rattle.vd_name_rows.specs.declared.sorts.Sort.{Sort}
+use Rattle.vd_name_rows.specs.declared.sorts.Sort.TheVariants as sort
+use Rattle.vd_name_rows.specs.Designs.{At, Design, Outcome, sight, gives, with_scopes}
+use Rattle.vd_name_rows.specs.Entering.{declaration_of, Entering, entering, entering_as, then_entering, nothing_entering}
+use Rattle.vd_name_rows.specs.Members.{next_number, declared_in}
+use Rattle.vd_name_rows.specs.Noting.{with_span, span_to, with_body, with_bodies, is_instance}
+use Rattle.vd_name_rows.specs.Refusals.{lesser, broken, broken_if}
 use Rattle.vd_naming.specs.Expressions.{resolved}
 use Rattle.vd_naming.specs.Selected.{Meant, Breaks}
 use Rattle.vd_naming.specs.Paths.{one_that, path_meant, path_outside, prefix_pieces, named_path, refused_path, rule_of, is_package, is_context}

@@ -11,11 +11,11 @@ use Rattle.vd_forms.specs.declared.form.Form.{Form}
 use Rattle.vd_forms.specs.declared.form.Form.TheVariants as form
 use Rattle.vd_regions.specs.Scopes.{declaration_at}
 use Rattle.vd_resolved.specs.declared.node.Resolved.{Resolved}
-use Rattle.vd_sights.specs.Types.{is_record}
-use Rattle.vd_name_states.specs.Designs.{At, Design, Outcome, sight, gives}
-use Rattle.vd_name_states.specs.Entering.{declaration_of, entering}
-use Rattle.vd_name_states.specs.Refusals.{lesser, broken, broken_if}
-use Rattle.vd_name_states.specs.declared.sorts.Sort.TheVariants as sort
+use Rattle.vd_visible.specs.Types.{is_record}
+use Rattle.vd_name_rows.specs.Designs.{At, Design, Outcome, sight, gives}
+use Rattle.vd_name_rows.specs.Entering.{declaration_of, entering}
+use Rattle.vd_name_rows.specs.Refusals.{lesser, broken, broken_if}
+use Rattle.vd_name_rows.specs.declared.sorts.Sort.TheVariants as sort
 use Rattle.vd_naming.specs.Expressions.{resolved, unresolved, type_declared}
 use Rattle.vd_naming.specs.Paths.{named_as, is_some}
 use Rattle.vd_naming.specs.Endings.{Ended, word_of, declares}

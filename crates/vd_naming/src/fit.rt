@@ -1,12 +1,12 @@
 //! What a name has to mean.
 
 ghost use Rattle.std.specs.Prelude.{◌≡◌};
-ghost use Rattle.vd_sights.specs.Sights.{sight_from};
+ghost use Rattle.vd_visible.specs.Sights.{sight_from};
 ghost use Rattle.vd_naming.specs.Fits.{fits};
 
 use vd_declarations::{Class, DeclId};
-use vd_name_states::Names;
-use vd_sights::Surroundings;
+use vd_name_rows::Names;
+use vd_visible::Surroundings;
 
 /// What the one declaration has to be that a name means.
 #[derive(Clone, Copy)]

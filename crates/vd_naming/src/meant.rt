@@ -3,8 +3,8 @@
 ghost use Rattle.std.specs.Prelude.{◌≡◌, IfOk, MatchOption};
 ghost use Rattle.std.specs.Option.{option_copied};
 ghost use Rattle.vd_forest.specs.Forest.{nothing, more};
-ghost use Rattle.vd_sights.specs.Kinds.{kind_of as kind_at, role_of as role_at};
-ghost use Rattle.vd_sights.specs.Sights.{sight_from, class_of};
+ghost use Rattle.vd_visible.specs.Kinds.{kind_of as kind_at, role_of as role_at};
+ghost use Rattle.vd_visible.specs.Sights.{sight_from, class_of};
 ghost use Rattle.vd_refusals.specs.Seen.{missing_in as absent_in};
 ghost use Rattle.vd_ways.specs.Ways.{selected_name, selection_name};
 ghost use Rattle.vd_naming.specs.Selected.{Means, Breaks, some_or as some_meant, selected_of, selected_under, meant_behind as behind_meant};
@@ -19,10 +19,10 @@ use vd_bytes::{Place, Refused};
 use vd_declarations::{Class, DeclId};
 use vd_forest::{Cursor, Opened};
 use vd_forms::Form;
-use vd_name_states::Names;
-use vd_sights::Surroundings;
-use vd_sights::kinds::{Kind, kind_of};
-use vd_sights::roles::{Role, role_of};
+use vd_name_rows::Names;
+use vd_visible::Surroundings;
+use vd_visible::kinds::{Kind, kind_of};
+use vd_visible::roles::{Role, role_of};
 use vd_ways::names::symbol_name;
 use vd_ways::values::letter_name;
 

@@ -2,8 +2,8 @@
 
 ghost use Rattle.std.specs.Prelude.{◌≡◌, IfOk};
 ghost use Rattle.vd_forest.specs.Store.{Holds, Extends};
-ghost use Rattle.vd_sights.specs.Sights.{sight_from};
-ghost use Rattle.vd_name_states.specs.Refusals.{lesser as lesser_refusal, broken_if as refused_where};
+ghost use Rattle.vd_visible.specs.Sights.{sight_from};
+ghost use Rattle.vd_name_rows.specs.Refusals.{lesser as lesser_refusal, broken_if as refused_where};
 ghost use Rattle.vd_naming.specs.Paths.{named_path as node_named, refused_path as path_refused, mark_meant as mark_of_named, with_named};
 ghost use Rattle.vd_naming.specs.Nodes.{named_to_fit};
 
@@ -17,10 +17,10 @@ use vd_bytes::{Place, Refused};
 use vd_declarations::{DeclId, TypeId};
 use vd_forest::{Cursor, Store};
 use vd_forms::Form;
-use vd_least::lesser;
-use vd_name_states::{At, Names};
+use vd_name_rows::{At, Names};
 use vd_resolved::Resolved;
-use vd_sights::Surroundings;
+use vd_visible::Surroundings;
+use vd_walks::lesser;
 
 /// What a name comes to.
 #[derive(Clone, Copy)]

@@ -1,7 +1,7 @@
 //! Packages with generics, which are named in themselves and their bodies alone. (IEEE 1076-2019, generic packages)
 
 ghost use Rattle.std.specs.Prelude.{◌≡◌, IfOk};
-ghost use Rattle.vd_sights.specs.Sights.{sight_from};
+ghost use Rattle.vd_visible.specs.Sights.{sight_from};
 ghost use Rattle.vd_naming.specs.Selected.{is_inside as stands_inside, is_outside as stands_outside, means_outside as meant_outside};
 ghost use Rattle.vd_naming.specs.Paths.{path_outside as path_from_outside, prefix_pieces};
 
@@ -10,8 +10,8 @@ use std::alloc::{AllocError, Global};
 use vd_declarations::{Class, DeclId, RegionId};
 use vd_forest::Cursor;
 use vd_forms::Form;
-use vd_name_states::Names;
-use vd_sights::Surroundings;
+use vd_name_rows::Names;
+use vd_visible::Surroundings;
 
 /// Whether a region stands in that of a declaration.
 fn is_inside(

@@ -3,8 +3,8 @@
 
 ghost use Rattle.std.specs.Prelude.{◌≡◌, IfOk};
 ghost use Rattle.std.specs.Option.{unwrap_or};
-ghost use Rattle.vd_sights.specs.Sights.{sight_from};
-ghost use Rattle.vd_name_states.specs.Refusals.{broken_if as refused_where};
+ghost use Rattle.vd_visible.specs.Sights.{sight_from};
+ghost use Rattle.vd_name_rows.specs.Refusals.{broken_if as refused_where};
 ghost use Rattle.vd_naming.specs.Selected.{means_outside as meant_outside};
 ghost use Rattle.vd_naming.specs.Pieces.{meant_by_piece as meant_behind_piece, is_array as array_at, is_unbounded as unbounded_at, means_unbounded as meant_unbounded, attribute_at as attribute_refused, refused_behind as behind_refused, refused_name as name_refused, refused_at as node_refused, pieces_finder, refused_pieces as pieces_refused};
 
@@ -14,13 +14,12 @@ use crate::refusing::broken_if;
 use std::alloc::{AllocError, Global};
 use vd_bytes::{Place, Refused};
 use vd_declarations::{DeclId, RegionId, TypeId};
-use vd_finding::{Finding, find_first};
 use vd_forest::{Cursor, Opened};
 use vd_forms::Form;
-use vd_least::lesser;
-use vd_name_states::Names;
-use vd_sights::Surroundings;
-use vd_sights::types::element_of;
+use vd_name_rows::Names;
+use vd_visible::Surroundings;
+use vd_visible::types::element_of;
+use vd_walks::{Finding, find_first, lesser};
 
 /// What a piece behind the first one makes of a name. Only behind points something is known here.
 fn meant_by_piece(
@@ -99,7 +98,7 @@ fn outside_at(
 }
 
 /// What is refused of the pieces behind what a name begins with, given the place of its first token.
-#[tactic(auto, using(vd_least::proofs::OrderLaws::lesser_brackets))]
+#[tactic(auto, using(vd_walks::proofs::OrderLaws::lesser_brackets))]
 fn refused_behind(
     alloc: Global,
     names: &Names,

@@ -1,7 +1,7 @@
 //! Rules that are broken, and where.
 
 ghost use Rattle.std.specs.Prelude.{◌≡◌};
-ghost use Rattle.vd_name_states.specs.Refusals.{broken_if as refused_where};
+ghost use Rattle.vd_name_rows.specs.Refusals.{broken_if as refused_where};
 
 use vd_bytes::{Place, Refused};
 

@@ -3,7 +3,7 @@ use Rattle.std.proofs.Common.{refl}
 use Rattle.std.specs.Char.{encode_utf8}
 use Rattle.std.specs.Prelude.{◌≡◌, None}
 use Rattle.std.specs.Str.{is_utf8, chars}
-use Rattle.vd_given.specs.Table.{standard_types, standard_operators, logic_types, logic_operators}
+use Rattle.vd_predefined.specs.Table.{standard_types, standard_operators, logic_types, logic_operators}
 use Rattle.vd_regions.specs.InOrder.{visible_in, selected_in_order}
 use Rattle.vd_naming_facts.specs.Trees.{first_of, breaks}
 use Rattle.vd_naming_facts.specs.Facts.{ViewFacts}

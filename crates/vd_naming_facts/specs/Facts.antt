@@ -1,7 +1,7 @@
 -- What is answered of the names of some designs with generics, instances and views: the first rule that is broken, with its line and column, or none. The texts of
 -- the designs stand in front of their trees.
 use Rattle.std.specs.Prelude.{◌≡◌, [], ◌∷◌, codes, Some, None}
-use Rattle.vd_given.specs.declared.numbers.TheConstants.{BOOLEAN, INTEGER}
+use Rattle.vd_predefined.specs.declared.numbers.TheConstants.{BOOLEAN, INTEGER}
 use Rattle.vd_naming_facts.specs.Trees.{first_of, breaks, declared_by, names_in, marks_in}
 use Rattle.vd_naming_facts.specs.Packages as packages
 use Rattle.vd_naming_facts.specs.Functions as functions

@@ -6,7 +6,7 @@ use Rattle.vd_bytes.specs.declared.answers.Refused.{Refused}
 use Rattle.vd_bytes.specs.declared.places.Place.{Place}
 use Rattle.vd_forest.specs.Forest.{Forest, nothing, more, with_next}
 use Rattle.vd_forms.specs.declared.form.Form.{Form}
-use Rattle.vd_given.specs.declared.numbers.TheConstants.{REGION_OF_WORK}
+use Rattle.vd_predefined.specs.declared.numbers.TheConstants.{REGION_OF_WORK}
 use Rattle.vd_regions.specs.declared.entries.Entered.{Entered}
 use Rattle.vd_trees.specs.declared.revision.Revision.TheVariants.{V2019}
 use Rattle.vd_naming.specs.Naming.{names_of}

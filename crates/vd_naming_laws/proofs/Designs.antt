@@ -11,8 +11,8 @@ use Rattle.vd_forms.specs.Slots.{Slot, slots_of}
 use Rattle.vd_forms.specs.Validity.{forms_of, fits, is_form_of, is_one_expression, is_bracketed, holders_of_actuals, keeps_brackets, AreValid}
 use Rattle.vd_trees.specs.declared.revision.Revision.{Revision}
 use Rattle.vd_trees.specs.declared.revision.Revision.TheVariants.{V2019, V1993}
-use Rattle.vd_name_states.specs.Rows.{row_of}
-use Rattle.vd_name_states.specs.declared.steps.Step.{Step}
+use Rattle.vd_name_rows.specs.Rows.{row_of}
+use Rattle.vd_name_rows.specs.declared.steps.Step.{Step}
 use Rattle.vd_naming.specs.Naming.{steps_behind}
 use Rattle.vd_naming_laws.specs.Keeping.{first_step, is_condition, Keeps}
 use Rattle.vd_naming_laws.proofs.Rows.{suit, rows_suit, wants_none, wants_none_behind, wants_none_first, no_condition_in_brackets, first_in}

@@ -8,10 +8,10 @@ use Rattle.vd_forms.specs.declared.form.Form.TheVariants as form
 use Rattle.vd_regions.specs.Scopes.{declaration_at}
 use Rattle.vd_resolved.specs.Trees.{syntax_of}
 use Rattle.vd_resolved.specs.declared.node.Resolved.{Resolved}
-use Rattle.vd_name_states.specs.Designs.{Outcome}
-use Rattle.vd_name_states.specs.Members.{next_number}
-use Rattle.vd_name_states.specs.declared.steps.Ending.{Ending}
-use Rattle.vd_name_states.specs.declared.steps.Ending.TheVariants as ending
+use Rattle.vd_name_rows.specs.Designs.{Outcome}
+use Rattle.vd_name_rows.specs.Members.{next_number}
+use Rattle.vd_name_rows.specs.declared.steps.Ending.{Ending}
+use Rattle.vd_name_rows.specs.declared.steps.Ending.TheVariants as ending
 use Rattle.vd_naming.specs.Endings.{Ended, declares, finished, closed, literals_numbered, with_literals, form_of_next, type_ends}
 use Rattle.vd_naming.specs.Functions.{body_of}
 use Rattle.vd_naming.specs.Units.{with_name, unit_of, entering_unit, unit_ends, is_single, package_ends, body_of_package, context_ends}

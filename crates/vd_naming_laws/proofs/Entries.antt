@@ -10,14 +10,14 @@ use Rattle.vd_forms.specs.Forms.{is_among, same_form, expressions}
 use Rattle.vd_forms.specs.Validity.{AreValid}
 use Rattle.vd_trees.specs.declared.revision.Revision.{Revision}
 use Rattle.vd_resolved.specs.Trees.{syntax_of}
-use Rattle.vd_walking.specs.Walking.{Done, Inside}
-use Rattle.vd_name_states.specs.Designs.{At, Design, Outcome}
-use Rattle.vd_name_states.specs.Rows.{row_of, class_of}
-use Rattle.vd_name_states.specs.declared.steps.Want.TheVariants as want
-use Rattle.vd_name_states.specs.declared.steps.Opening.{Opening}
-use Rattle.vd_name_states.specs.declared.steps.Opening.TheVariants as opening
-use Rattle.vd_name_states.specs.declared.steps.Step.{Step}
-use Rattle.vd_name_states.specs.declared.steps.Step.TheVariants as step
+use Rattle.vd_walks.specs.Walking.{Done, Inside}
+use Rattle.vd_name_rows.specs.Designs.{At, Design, Outcome}
+use Rattle.vd_name_rows.specs.Rows.{row_of, class_of}
+use Rattle.vd_name_rows.specs.declared.steps.Want.TheVariants as want
+use Rattle.vd_name_rows.specs.declared.steps.Opening.{Opening}
+use Rattle.vd_name_rows.specs.declared.steps.Opening.TheVariants as opening
+use Rattle.vd_name_rows.specs.declared.steps.Step.{Step}
+use Rattle.vd_name_rows.specs.declared.steps.Step.TheVariants as step
 use Rattle.vd_naming.specs.Endings.{form_of_next}
 use Rattle.vd_naming.specs.Expressions.{expression}
 use Rattle.vd_naming.specs.Openings.{opens, nested, opened_as}

@@ -14,10 +14,10 @@ use Rattle.vd_overloads.specs.Environment.{rules_at, scene_at}
 use Rattle.vd_overloads.specs.Interpretations.{interpretations}
 use Rattle.vd_overloads.specs.declared.wanted.Wanted.{Wanted}
 use Rattle.vd_overloads.specs.declared.wanted.Wanted.TheVariants as wanted
-use Rattle.vd_name_states.specs.declared.steps.Want as step
-use Rattle.vd_name_states.specs.declared.steps.Want.TheVariants as places
-use Rattle.vd_name_states.specs.declared.steps.Step.TheVariants as steps
-use Rattle.vd_name_states.specs.Designs.{At, Design, Outcome, standpoint, sight, gives}
+use Rattle.vd_name_rows.specs.declared.steps.Want as step
+use Rattle.vd_name_rows.specs.declared.steps.Want.TheVariants as places
+use Rattle.vd_name_rows.specs.declared.steps.Step.TheVariants as steps
+use Rattle.vd_name_rows.specs.Designs.{At, Design, Outcome, standpoint, sight, gives}
 use Rattle.vd_naming.specs.Expressions.{resolved, unresolved, only_reading, read_as, mark_states, mark_readings, read_as_mark, mark_declared, type_declared, fits_wanted, with_node, bounds_as, bounds_if, bounds_of_type, narrowed, where_known, with_mark, index_type, wanted_at, is_absent, expression}
 use Rattle.vd_naming_laws.specs.Keeping.{IsImplied}
 use Rattle.vd_naming_laws.proofs.Trees.{syntax_joined}

@@ -13,10 +13,10 @@ use Rattle.vd_regions.specs.Scopes.{declaration_at}
 use Rattle.vd_trees.specs.declared.revision.Revision.{Revision}
 use Rattle.vd_resolved.specs.Trees.{syntax_of}
 use Rattle.vd_resolved.specs.declared.node.Resolved.{Resolved}
-use Rattle.vd_sights.specs.Sights.{Sight, class_of, mark_of}
+use Rattle.vd_visible.specs.Sights.{Sight, class_of, mark_of}
 use Rattle.vd_ways.specs.Ways.{selection_name}
 use Rattle.vd_overloads.specs.declared.wanted.Wanted.TheVariants as wanted
-use Rattle.vd_name_states.specs.Designs.{At, Design, Outcome}
+use Rattle.vd_name_rows.specs.Designs.{At, Design, Outcome}
 use Rattle.vd_naming.specs.Selected.{Meant, meant_behind}
 use Rattle.vd_naming.specs.Expressions.{with_mark}
 use Rattle.vd_naming.specs.Statements.{alone}

@@ -4,7 +4,7 @@ use Rattle.std.specs.Char.{encode_utf8}
 use Rattle.std.specs.Str.{is_utf8, chars}
 use Rattle.vd_forms.specs.declared.form.Form.TheVariants as form
 use Rattle.vd_forms.specs.Validity.{AreValid}
-use Rattle.vd_given.specs.Table.{standard_types, standard_operators, logic_types, logic_operators}
+use Rattle.vd_predefined.specs.Table.{standard_types, standard_operators, logic_types, logic_operators}
 use Rattle.vd_regions.specs.InOrder.{visible_in, selected_in_order}
 use Rattle.vd_resolved.specs.Trees.{syntax_of}
 use Rattle.vd_trees.specs.declared.revision.Revision.TheVariants.{V2019}

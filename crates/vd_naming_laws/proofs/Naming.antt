@@ -4,8 +4,8 @@ use Rattle.vd_forms.specs.Slots.{file_slots}
 use Rattle.vd_forms.specs.Validity.{IsDesign}
 use Rattle.vd_resolved.specs.Trees.{syntax_of}
 use Rattle.vd_trees.specs.declared.revision.Revision.TheVariants.{V1993}
-use Rattle.vd_name_states.specs.Designs.{begin_design}
-use Rattle.vd_name_states.specs.declared.steps.Step.TheVariants as step
+use Rattle.vd_name_rows.specs.Designs.{begin_design}
+use Rattle.vd_name_rows.specs.declared.steps.Step.TheVariants as step
 use Rattle.vd_naming.specs.Naming.{begin, names_from}
 use Rattle.vd_naming.specs.Settled.{settled_node}
 use Rattle.vd_naming_laws.specs.Laws.{NamesKeepSyntax, NamesOf1993KeepSyntax, NamesGiveDesigns, SettlingKeepsSyntax}

@@ -12,9 +12,9 @@ use Rattle.vd_trees.specs.declared.revision.Revision.{Revision}
 use Rattle.vd_resolved.specs.Trees.{syntax_of}
 use Rattle.vd_resolved.specs.declared.node.Resolved.{Resolved}
 use Rattle.vd_overloads.specs.declared.wanted.Wanted.TheVariants as wanted
-use Rattle.vd_name_states.specs.Designs.{At, Design, Outcome}
-use Rattle.vd_least.specs.Least.{lesser}
-use Rattle.vd_name_states.specs.Noting.{formal_at}
+use Rattle.vd_name_rows.specs.Designs.{At, Design, Outcome}
+use Rattle.vd_walks.specs.Least.{lesser}
+use Rattle.vd_name_rows.specs.Noting.{formal_at}
 use Rattle.vd_naming.specs.Expressions.{unresolved, mark_of}
 use Rattle.vd_naming.specs.Ports.{Front, OfPort, Converted, OtherFront, front, among_ports, converted, Map, no_map, with_element, with_other, value_as, actual, placed, place_of_next, converted_type, not_back, named_front, association_node, associated_with, associated, with_tree, with_trees, named_from_here, map_of_known, port_map}
 use Rattle.vd_naming_laws.proofs.Trees.{syntax_joined, joined_nothing, joined_joined}

@@ -10,9 +10,9 @@ use Rattle.vd_forms.specs.declared.form.Form.TheVariants as form
 use Rattle.vd_forms.specs.Forms.{is_among, expressions}
 use Rattle.vd_forms.specs.Slots.{Slot, One, Many, slots_of}
 use Rattle.vd_forms.specs.Validity.{fits, keeps_brackets}
-use Rattle.vd_name_states.specs.Rows.{row_of}
-use Rattle.vd_name_states.specs.declared.steps.Step.{Step}
-use Rattle.vd_name_states.specs.declared.steps.Step.TheVariants as step
+use Rattle.vd_name_rows.specs.Rows.{row_of}
+use Rattle.vd_name_rows.specs.declared.steps.Step.{Step}
+use Rattle.vd_name_rows.specs.declared.steps.Step.TheVariants as step
 use Rattle.vd_naming.specs.Naming.{steps_behind}
 use Rattle.vd_naming_laws.specs.Keeping.{first_step, is_condition}
 use Rattle.vd_naming_laws.proofs.Fitting.{leaves}

@@ -10,10 +10,10 @@ use Rattle.vd_trees.specs.declared.revision.Revision.{Revision}
 use Rattle.vd_resolved.specs.Trees.{syntax_of}
 use Rattle.vd_resolved.specs.declared.node.Resolved.{Resolved}
 use Rattle.vd_declarations.specs.declared.declarations.Declaration.{Declaration}
-use Rattle.vd_name_states.specs.Entering.{numbered}
-use Rattle.vd_name_states.specs.declared.steps.Want as step
-use Rattle.vd_name_states.specs.declared.steps.Want.TheVariants as want
-use Rattle.vd_name_states.specs.Designs.{At, Design, Outcome, gives}
+use Rattle.vd_name_rows.specs.Entering.{numbered}
+use Rattle.vd_name_rows.specs.declared.steps.Want as step
+use Rattle.vd_name_rows.specs.declared.steps.Want.TheVariants as want
+use Rattle.vd_name_rows.specs.Designs.{At, Design, Outcome, gives}
 use Rattle.vd_naming.specs.Selected.{Meant}
 use Rattle.vd_naming.specs.Expressions.{unresolved, at_hand, expression, target, selector}
 use Rattle.vd_naming.specs.Paths.{mark}

@@ -8,11 +8,11 @@ use Rattle.vd_forms.specs.Slots.{Slot, slots_of}
 use Rattle.vd_forms.specs.Validity.{forms_of, fits, keeps_brackets, AreValid}
 use Rattle.vd_trees.specs.declared.revision.Revision.{Revision}
 use Rattle.vd_resolved.specs.Trees.{syntax_of}
-use Rattle.vd_walking.specs.Walking.{Done, Inside, through, walked}
-use Rattle.vd_name_states.specs.Designs.{At, Design, Outcome}
-use Rattle.vd_name_states.specs.Rows.{row_of}
-use Rattle.vd_name_states.specs.declared.steps.Step.{Step}
-use Rattle.vd_name_states.specs.declared.steps.Step.TheVariants as step
+use Rattle.vd_walks.specs.Walking.{Done, Inside, through, walked}
+use Rattle.vd_name_rows.specs.Designs.{At, Design, Outcome}
+use Rattle.vd_name_rows.specs.Rows.{row_of}
+use Rattle.vd_name_rows.specs.declared.steps.Step.{Step}
+use Rattle.vd_name_rows.specs.declared.steps.Step.TheVariants as step
 use Rattle.vd_naming.specs.Endings.{Ended}
 use Rattle.vd_naming.specs.Naming.{steps_behind, step_of, stepped, Kept, Entered, looked_at, left_by, done, naming}
 use Rattle.vd_naming.specs.Views.{of_viewed_record}

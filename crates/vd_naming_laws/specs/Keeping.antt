@@ -8,10 +8,10 @@ use Rattle.vd_forms.specs.declared.form.Form.TheVariants as form
 use Rattle.vd_forms.specs.Forms.{is_among, expressions}
 use Rattle.vd_trees.specs.declared.revision.Revision.{Revision}
 use Rattle.vd_trees.specs.declared.revision.Revision.TheVariants.{V2019}
-use Rattle.vd_name_states.specs.Rows.{row_of}
-use Rattle.vd_name_states.specs.declared.steps.Want.TheVariants as want
-use Rattle.vd_name_states.specs.declared.steps.Step.{Step}
-use Rattle.vd_name_states.specs.declared.steps.Step.TheVariants as step
+use Rattle.vd_name_rows.specs.Rows.{row_of}
+use Rattle.vd_name_rows.specs.declared.steps.Want.TheVariants as want
+use Rattle.vd_name_rows.specs.declared.steps.Step.{Step}
+use Rattle.vd_name_rows.specs.declared.steps.Step.TheVariants as step
 use Rattle.vd_naming.specs.Naming.{steps_behind}
 
 -- the step of the tree in front, where these are left

@@ -7,8 +7,8 @@ use Rattle.vd_regions.specs.Scopes.{Scopes}
 use Rattle.vd_resolved.specs.Trees.{syntax_of}
 use Rattle.vd_trees.specs.declared.revision.Revision.{Revision}
 use Rattle.vd_trees.specs.declared.revision.Revision.TheVariants.{V1993}
-use Rattle.vd_name_states.specs.declared.steps.Step.TheVariants as step
-use Rattle.vd_name_states.specs.Designs.{Outcome}
+use Rattle.vd_name_rows.specs.declared.steps.Step.TheVariants as step
+use Rattle.vd_name_rows.specs.Designs.{Outcome}
 use Rattle.vd_naming.specs.Naming.{names_from}
 use Rattle.vd_naming.specs.Settled.{resolved_tree}
 use Rattle.vd_naming_laws.specs.Keeping.{Keeps}

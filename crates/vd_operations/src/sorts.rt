@@ -7,7 +7,7 @@ ghost use Rattle.vd_operations.specs.Readings.{read_sort};
 
 use crate::tables::class_of;
 use vd_declarations::{Class, Declaration, TypeId};
-use vd_given::numbers::{BIT, BOOLEAN, INTEGER, STD_ULOGIC, TIME};
+use vd_predefined::numbers::{BIT, BOOLEAN, INTEGER, STD_ULOGIC, TIME};
 use vd_vectors::LogicType;
 
 /// What a type is to an operator.

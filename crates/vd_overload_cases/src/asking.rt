@@ -13,9 +13,9 @@ use vd_grammar19::read19;
 use vd_grammar93::read93;
 use vd_lex::{lex19, lex93};
 use vd_overloads::{Env, Wanted, resolve_expr};
-use vd_sights::Surroundings;
-use vd_sights::type_lists::all_types;
 use vd_trees::Revision;
+use vd_visible::Surroundings;
+use vd_visible::type_lists::all_types;
 
 /// Longer texts aren't taken.
 const LONGEST: usize = 1 << 23;

@@ -7,7 +7,7 @@ use crate::world::World;
 use anyhow::bail;
 use std::alloc::Global;
 use vd_declarations::{Class, DeclId, RegionId, TypeId};
-use vd_given::declare_operators;
+use vd_predefined::declare_operators;
 
 /// Enters a declaration of this class where the steps are.
 fn put(

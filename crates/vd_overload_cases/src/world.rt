@@ -6,7 +6,7 @@ use anyhow::bail;
 use std::alloc::Global;
 use vd_bytes::{Place, Text};
 use vd_declarations::{Class, DeclId, Declaration, Declarations, Made, RegionId, TypeId};
-use vd_given::given;
+use vd_predefined::given;
 use vd_regions::Regions;
 use vd_trees::Revision;
 

@@ -6,8 +6,8 @@ use Rattle.vd_forest.specs.Forest.{Forest}
 use Rattle.vd_declarations.specs.declared.classes.Class.{Class}
 use Rattle.vd_declarations.specs.declared.classes.Class.TheVariants as class
 use Rattle.vd_forms.specs.declared.form.Form.{Form}
-use Rattle.vd_given.specs.declared.numbers.TheConstants.{BOOLEAN, STANDARD, STD_LOGIC_1164}
-use Rattle.vd_finding.specs.Finding.{Finder, first_found}
+use Rattle.vd_predefined.specs.declared.numbers.TheConstants.{BOOLEAN, STANDARD, STD_LOGIC_1164}
+use Rattle.vd_walks.specs.Finding.{Finder, first_found}
 use Rattle.vd_readings.specs.Readings.{Rules}
 use Rattle.vd_refusals.specs.Refusals.{first_refusal}
 use Rattle.vd_states.specs.declared.states.Want.{Want}
@@ -16,11 +16,11 @@ use Rattle.vd_overloads.specs.declared.around.Around.{Around}
 use Rattle.vd_overloads.specs.declared.around.Around.TheVariants as around
 use Rattle.vd_overloads.specs.declared.wanted.Wanted.{Wanted}
 use Rattle.vd_overloads.specs.declared.wanted.Wanted.TheVariants as wanted
-use Rattle.vd_sights.specs.declared.kinds.Kind.TheVariants as kind
-use Rattle.vd_sights.specs.Kinds.{kind_of}
-use Rattle.vd_sights.specs.Lists.{simple_name, elements_named}
-use Rattle.vd_sights.specs.Sights.{Sight, Standpoint, sight_from, class_of}
-use Rattle.vd_sights.specs.Types.{all_types, is_discrete}
+use Rattle.vd_visible.specs.declared.kinds.Kind.TheVariants as kind
+use Rattle.vd_visible.specs.Kinds.{kind_of}
+use Rattle.vd_visible.specs.Lists.{simple_name, elements_named}
+use Rattle.vd_visible.specs.Sights.{Sight, Standpoint, sight_from, class_of}
+use Rattle.vd_visible.specs.Types.{all_types, is_discrete}
 use Rattle.vd_ways.specs.Ways.{ways, ends}
 use Rattle.vd_overloads.specs.Interpretations.{Scene}
 

@@ -7,7 +7,7 @@ use Rattle.vd_bytes.specs.declared.places.Place.{Place}
 use Rattle.vd_forest.specs.Forest.{Forest, nothing, more, with_next, no_place}
 use Rattle.vd_forms.specs.declared.form.Form.{Form}
 use Rattle.vd_forms.specs.declared.form.Form.TheVariants as form
-use Rattle.vd_given.specs.declared.numbers.TheConstants.{BOOLEAN}
+use Rattle.vd_predefined.specs.declared.numbers.TheConstants.{BOOLEAN}
 use Rattle.vd_resolved.specs.declared.node.Resolved.{Resolved}
 use Rattle.vd_states.specs.declared.states.State.{State}
 use Rattle.vd_states.specs.declared.states.State.TheVariants as state

@@ -1,9 +1,10 @@
 //! Places of a design, where expressions are resolved.
 
 ghost use Rattle.std.specs.Prelude.{◌≡◌, IfOk};
-ghost use Rattle.vd_sights.specs.Sights.{sight_from};
+ghost use Rattle.vd_visible.specs.Sights.{sight_from};
 ghost use Rattle.vd_overloads.specs.Environment.{want_of, condition_operators};
 
+use crate::possible_states;
 use crate::setting::Setting;
 use crate::unknown::first_unknown;
 use crate::wanted::Wanted;
@@ -12,14 +13,13 @@ use vd_bytes::{Place, Refused};
 use vd_declarations::{DeclId, TypeId};
 use vd_forest::{Cursor, Opened};
 use vd_forms::Form;
-use vd_given::numbers::{BOOLEAN, STANDARD, STD_LOGIC_1164};
-use vd_name_goals::possible_states;
+use vd_predefined::numbers::{BOOLEAN, STANDARD, STD_LOGIC_1164};
 use vd_readings::Language;
 use vd_refusals::first_refusal;
-use vd_sights::Surroundings;
-use vd_sights::types::is_discrete;
 use vd_states::{State, Want, Way};
 use vd_trees::Revision;
+use vd_visible::Surroundings;
+use vd_visible::types::is_discrete;
 use vd_ways::{ends_in, ways_in};
 
 /// A place of a design, with all that is declared so far.

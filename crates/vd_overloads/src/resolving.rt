@@ -14,7 +14,7 @@ use vd_bytes::{Place, Refusal, Refused};
 use vd_declarations::{DeclId, TypeId};
 use vd_forest::{Cursor, Store};
 use vd_forms::Form;
-use vd_given::numbers::BOOLEAN;
+use vd_predefined::numbers::BOOLEAN;
 use vd_readings::{Found, read};
 use vd_resolved::Resolved;
 use vd_states::{State, Want};

@@ -2,19 +2,19 @@
 
 ghost use Rattle.std.specs.Prelude.{◌≡◌, IfOk, Some};
 ghost use Rattle.std.specs.Option.{option_copied};
-ghost use Rattle.vd_sights.specs.Sights.{sight_from};
+ghost use Rattle.vd_visible.specs.Sights.{sight_from};
 ghost use Rattle.vd_overloads.specs.Environment.{names_declaration as declaration_named, names_element, names_nothing, choices_in as choices_under, down_from as down_under, are_choices as choices_are, first_unknown};
 
 use crate::around::Around;
 use std::alloc::{AllocError, Global};
 use vd_bytes::Place;
 use vd_declarations::Class;
-use vd_finding::{Finding, find_first};
 use vd_forest::{Cursor, Opened};
 use vd_forms::Form;
-use vd_sights::Surroundings;
-use vd_sights::kinds::{Kind, kind_of};
-use vd_sights::lists::simple_name;
+use vd_visible::Surroundings;
+use vd_visible::kinds::{Kind, kind_of};
+use vd_visible::lists::simple_name;
+use vd_walks::{Finding, find_first};
 
 /// Looks for choices that name nothing at a place.
 #[derive(Drop)]
@@ -23,7 +23,7 @@ struct Choices<'a> {
 }
 
 impl<'a> Finding<Form, Around, Place> for Choices<'a> {
-    ghost use Rattle.vd_sights.specs.Sights.{sight_from};
+    ghost use Rattle.vd_visible.specs.Sights.{sight_from};
     ghost use Rattle.vd_overloads.specs.Environment.{unknown_finder};
 
     ghost finder = { λ choices. unknown_finder (sight_from choices.place.now) };

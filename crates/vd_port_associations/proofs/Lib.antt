@@ -1,2 +1,4 @@
+mod PairLemmas
+pub mod AgreementLemmas
 mod ActualLemmas
 pub mod AssociationLemmas

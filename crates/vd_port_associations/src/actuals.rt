@@ -1,9 +1,9 @@
 //! What stands for a port.
 
 ghost use Rattle.std.specs.Prelude.{◌≡◌, ◌∷◌, IfOk, List, OnOk};
-ghost use Rattle.vd_facets.specs.Roles.{read_role};
+ghost use Rattle.vd_operations.specs.Roles.{read_role};
 ghost use Rattle.vd_known_designs.specs.Designs.{IsReady, Knows};
-ghost use Rattle.vd_known_tables.specs.Contents.{or_nothing};
+ghost use Rattle.vd_known_designs.specs.Contents.{or_nothing};
 ghost use Rattle.vd_port_associations.specs.Associations.{read_actual, read_actual_some, read_signal, signal_named_if};
 ghost use Rattle.vd_port_modes.specs.Readings.{read_reached};
 ghost use Rattle.vd_port_modes.specs.Source.{design_in};
@@ -18,14 +18,14 @@ use crate::formals::mark_or_first;
 use std::alloc::{AllocError, Global};
 use vd_bytes::Place;
 use vd_declarations::DeclId;
-use vd_facets::Role;
 use vd_forest::Cursor;
 use vd_forms::Form;
 use vd_known_designs::KnownDesign;
 use vd_known_indications::node;
+use vd_operations::Role;
 use vd_port_modes::{Interfaces, Reached, is_signal_name, reached_by};
 use vd_resolved::Resolved;
-use vd_static_entries::KnownName;
+use vd_static_values::KnownName;
 
 /// What an actual is.
 #[derive(Drop)]

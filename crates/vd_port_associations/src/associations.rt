@@ -10,12 +10,12 @@ use crate::formals::{FormalSort, formal_sort};
 use crate::numbers::NumberSet;
 use std::alloc::{AllocError, Global};
 use vd_bytes::Place;
+use vd_contexts::elements::{behind_formal, next_formal};
 use vd_declarations::DeclId;
 use vd_forest::{Cursor, Opened};
 use vd_forms::Form;
 use vd_port_modes::Interfaces;
 use vd_resolved::Resolved;
-use vd_standings::elements::{behind_formal, next_formal};
 
 /// An element of a port map.
 #[derive(Drop)]

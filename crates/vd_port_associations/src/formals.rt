@@ -1,7 +1,7 @@
 //! Formals: a whole port, or a conversion of one.
 
 ghost use Rattle.std.specs.Prelude.{◌≡◌, IfOk, List, Some, ℕ};
-ghost use Rattle.vd_facets.specs.Roles.{read_role};
+ghost use Rattle.vd_operations.specs.Roles.{read_role};
 ghost use Rattle.vd_meaning.specs.Names.{number_or};
 ghost use Rattle.vd_port_associations.specs.Associations.{bracketed_formal, read_brackets, read_formal};
 ghost use Rattle.vd_port_associations.specs.Numbers.{Holds};
@@ -13,9 +13,9 @@ use crate::brackets::{LastBrackets, is_single, last_brackets};
 use crate::numbers::NumberSet;
 use std::alloc::{AllocError, Global};
 use vd_declarations::DeclId;
-use vd_facets::Role;
 use vd_forest::{Cursor, Opened};
 use vd_forms::Form;
+use vd_operations::Role;
 use vd_port_modes::{Interfaces, reached_by};
 use vd_resolved::Resolved;
 

@@ -4,7 +4,7 @@ use Rattle.vd_bytes.specs.declared.places.Place.{Place}
 use Rattle.vd_meaning.specs.NodeFacets.{Part, last_of, nth}
 use Rattle.vd_meaning.specs.Parts as elaborated
 use Rattle.vd_meaning.specs.Parts.{formal_in, part_of, parts}
-use Rattle.vd_facets.specs.Passing.{last_tree}
+use Rattle.vd_operations.specs.Passing.{last_tree}
 use Rattle.vd_forest.specs.Forest.{Forest, more, nothing, skipped}
 use Rattle.vd_forms.specs.declared.form.Form.{Form}
 use Rattle.vd_meaning.specs.Brackets.{or_else}
@@ -13,7 +13,7 @@ use Rattle.vd_meaning.specs.Facets as facets
 use Rattle.vd_meaning.specs.Kinds.{kind}
 use Rattle.vd_meaning.specs.Meanings.{meaning_of, meanings}
 use Rattle.vd_meaning.specs.Tables.{Table}
-use Rattle.vd_facets.proofs.PassingLemmas.{open_at}
+use Rattle.vd_operations.proofs.PassingLemmas.{open_at}
 use Rattle.vd_port_facts.proofs.FacetLemmas.{part_open}
 use Rattle.vd_port_facts.proofs.TextLemmas.{last_part}
 use Rattle.vd_port_facts.specs.Reading.{actuals_by, formal_by, formal_first, part_first, read_actual, read_element}

@@ -3,7 +3,7 @@ use Rattle.std.proofs.Common.{◌≡◌, ◌++◌, ℕ, Bool, true, false, List,
 use Rattle.vd_meaning.specs.NodeFacets.{Part, nth}
 use Rattle.vd_meaning.specs.Parts as elaborated
 use Rattle.vd_meaning.specs.Parts.{part_of, parts}
-use Rattle.vd_facets.proofs.PassingLemmas.{open_at}
+use Rattle.vd_operations.proofs.PassingLemmas.{open_at}
 use Rattle.vd_forest.specs.Forest.{Forest, skipped}
 use Rattle.vd_meaning.specs.Facets.{Meaning, flattened}
 use Rattle.vd_meaning.specs.Kinds as kinds

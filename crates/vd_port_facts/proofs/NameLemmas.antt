@@ -6,7 +6,7 @@ use Rattle.vd_meaning.specs.Parts as elaborated
 use Rattle.vd_meaning.specs.Parts.{node_part, part_of, parts}
 use Rattle.vd_forest.specs.Forest.{Forest, skipped}
 use Rattle.vd_forms.specs.declared.form.Form.{Form}
-use Rattle.vd_gathering.specs.Gathering.{all_found, with_answer}
+use Rattle.vd_walks.specs.Gathering.{all_found, with_answer}
 use Rattle.vd_meaning.specs.Facets.{Meaning}
 use Rattle.vd_meaning.specs.Meanings.{node_meaning}
 use Rattle.vd_meaning.specs.Tables.{Table}

@@ -7,7 +7,7 @@ use Rattle.vd_meaning.specs.Parts.{node_part, parts}
 use Rattle.vd_forest.specs.Forest.{Forest, more, nothing}
 use Rattle.vd_forms.specs.declared.form.Form.{Form}
 use Rattle.vd_function_names.specs.declared.counting.Counted.{Counted}
-use Rattle.vd_gathering.specs.Gathering.{all_found, with_answer}
+use Rattle.vd_walks.specs.Gathering.{all_found, with_answer}
 use Rattle.vd_meaning.specs.Facets.{no_meaning}
 use Rattle.vd_meaning.specs.Tables.{Table}
 use Rattle.vd_port_facts.specs.Seeking.{seeker}

@@ -4,7 +4,7 @@ use Rattle.vd_bytes.specs.declared.places.Place.{Place}
 use Rattle.vd_meaning.specs.NodeFacets.{Part, last_of, nth}
 use Rattle.vd_meaning.specs.Parts as elaborated
 use Rattle.vd_meaning.specs.Parts.{part_of, parts}
-use Rattle.vd_facets.specs.Passing.{last_tree}
+use Rattle.vd_operations.specs.Passing.{last_tree}
 use Rattle.vd_forest.specs.Forest.{Forest, more, nothing, skipped}
 use Rattle.vd_forms.specs.declared.form.Form.{Form}
 use Rattle.vd_meaning.specs.Facets.{Meaning}

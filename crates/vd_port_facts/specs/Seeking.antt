@@ -1,12 +1,12 @@
 -- Where the facts stand in the trees of a design: which trees side by side are looked at, what they answer, and which of their parts are
 -- looked at.
 use Rattle.std.specs.Prelude.{Bool, List, None, Option, Some, [], false, if◌then◌else◌, true, ℕ}
-use Rattle.vd_finding.specs.Finding.{Finder}
+use Rattle.vd_walks.specs.Finding.{Finder}
 use Rattle.vd_forest.specs.Forest.{Forest, skipped}
 use Rattle.vd_forms.specs.declared.form.Form.{Form}
 use Rattle.vd_function_names.specs.Counting.{behind, counts}
 use Rattle.vd_function_names.specs.declared.counting.Counted.{Counted}
-use Rattle.vd_gathering.specs.Gathering.{all_found}
+use Rattle.vd_walks.specs.Gathering.{all_found}
 use Rattle.vd_meaning.specs.Tables.{Table}
 use Rattle.vd_port_facts.specs.Reading.{name_first, named_first, numbers_first}
 use Rattle.vd_port_facts.specs.declared.entities.ListedEntity.{ListedEntity}

@@ -13,9 +13,9 @@ use std::alloc::{AllocError, Global};
 use std::collections::HashMap;
 use std::marker::Model;
 use vd_declarations::DeclId;
-use vd_facets::is_open;
 use vd_forest::Cursor;
 use vd_forms::Form;
+use vd_operations::is_open;
 use vd_resolved::Resolved;
 
 /// An actual: the generic that is named in front of `=>`, and whether it is `open`.

@@ -13,15 +13,14 @@ use crate::generics::{ListedGenerics, ObjectSeeker, generics_of_first};
 use crate::trees::last_of;
 use indexmap::IndexMap;
 use std::alloc::{AllocError, Global};
-use vd_body_likeness::identified::text_of_first;
+use vd_body_rules::identified::text_of_first;
 use vd_bytes::Text;
-use vd_finding::Finding;
 use vd_forest::{Cursor, Opened};
 use vd_forms::Form;
 use vd_function_names::counting::{Counted, behind, counts};
-use vd_gathering::find_all;
 use vd_resolved::{Resolved, Tree};
 use vd_trees::Revision;
+use vd_walks::{Finding, find_all};
 
 /// An entity: its name and its generics.
 #[derive(Drop)]

@@ -8,14 +8,13 @@ use crate::names::names_of_first;
 use std::alloc::{AllocError, Global};
 use std::marker::Model;
 use vd_declarations::{Declaration, Declarations};
-use vd_finding::Finding;
 use vd_forest::{Cursor, Opened};
 use vd_forms::Form;
 use vd_function_names::counting::{Counted, behind, counts};
 use vd_function_names::numbers::numbers_of_first;
-use vd_gathering::find_all;
 use vd_resolved::Resolved;
 use vd_trees::Revision;
+use vd_walks::{Finding, find_all};
 
 /// Lists of declarations, in their order. Contracts see the list of these lists.
 #[derive(Drop)]

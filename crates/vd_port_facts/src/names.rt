@@ -7,12 +7,11 @@ ghost use Rattle.vd_port_facts.specs.Seeking.{inside_names as names_inside, name
 
 use std::alloc::{AllocError, Global};
 use vd_declarations::DeclId;
-use vd_finding::Finding;
 use vd_forest::{Cursor, Opened};
 use vd_forms::Form;
 use vd_function_names::counting::{Counted, behind, counts};
-use vd_gathering::find_all;
 use vd_resolved::Resolved;
+use vd_walks::{Finding, find_all};
 
 /// The declaration that a node names itself.
 fn named_by(form: Form, number: Option<DeclId>) -> Option<DeclId>

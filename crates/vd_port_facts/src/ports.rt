@@ -13,14 +13,13 @@ use crate::names::names_of_first;
 use std::alloc::{AllocError, Global};
 use std::collections::HashMap;
 use vd_declarations::{DeclId, Declaration, Declarations};
-use vd_facets::is_present;
-use vd_finding::Finding;
 use vd_forest::{Cursor, Opened};
 use vd_forms::Form;
 use vd_function_names::numbers::numbers_of_first;
-use vd_gathering::find_all;
+use vd_operations::is_present;
 use vd_resolved::{Resolved, Tree};
 use vd_trees::Revision;
+use vd_walks::{Finding, find_all};
 
 /// Ports that are declared together.
 #[derive(Drop)]

@@ -1,7 +1,7 @@
 //! Trees side by side.
 
 ghost use Rattle.std.specs.Prelude.{◌≡◌, ◌≤◌};
-ghost use Rattle.vd_facets.specs.Passing.{last_tree};
+ghost use Rattle.vd_operations.specs.Passing.{last_tree};
 ghost use Rattle.vd_forest.specs.Forest.{size};
 
 use vd_forest::Cursor;

@@ -3,10 +3,10 @@ use Rattle.std.proofs.Common.{◌≡◌, ℕ, zero, suc, Bool, true, false, List
 use Rattle.vd_meaning.specs.NodeFacets.{ByView, Part, nth}
 use Rattle.vd_meaning.specs.Parts as elaborated
 use Rattle.vd_meaning.specs.Parts.{node_part, part_of, parts}
-use Rattle.vd_facets.proofs.PassingLemmas.{declaration_by, declaration_passed, present_by, present_passed}
-use Rattle.vd_facets.specs.Passing.{passing}
-use Rattle.vd_facets.specs.declared.passing.Passing.{Passing}
-use Rattle.vd_facets.specs.declared.passing.Passing.TheVariants.{First, Last, Nothing, OpenFirst, Second}
+use Rattle.vd_operations.proofs.PassingLemmas.{declaration_by, declaration_passed, present_by, present_passed}
+use Rattle.vd_operations.specs.Passing.{passing}
+use Rattle.vd_operations.specs.declared.passing.Passing.{Passing}
+use Rattle.vd_operations.specs.declared.passing.Passing.TheVariants.{First, Last, Nothing, OpenFirst, Second}
 use Rattle.vd_forest.specs.Forest.{Forest, more, nothing, skipped}
 use Rattle.vd_forms.specs.declared.form.Form.{Form}
 use Rattle.vd_meaning.specs.Brackets.{or_else}

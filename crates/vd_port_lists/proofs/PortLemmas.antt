@@ -8,7 +8,7 @@ use Rattle.vd_meaning.specs.Parts as elaborated
 use Rattle.vd_meaning.specs.Parts.{node_part, part_of, parts}
 use Rattle.vd_forest.specs.Forest.{Forest}
 use Rattle.vd_forms.specs.declared.form.Form.{Form}
-use Rattle.vd_gathering.specs.Gathering.{all_found}
+use Rattle.vd_walks.specs.Gathering.{all_found}
 use Rattle.vd_meaning.specs.Facets.{Meaning, flattened, no_meaning}
 use Rattle.vd_meaning.specs.Kinds.{kind}
 use Rattle.vd_meaning.specs.Meanings.{meaning_of}

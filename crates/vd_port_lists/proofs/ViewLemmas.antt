@@ -7,7 +7,7 @@ use Rattle.vd_meaning.specs.Parts as elaborated
 use Rattle.vd_meaning.specs.Parts.{element_parts, node_part, part_of, parts}
 use Rattle.vd_forest.specs.Forest.{Forest, skipped}
 use Rattle.vd_forms.specs.declared.form.Form.{Form}
-use Rattle.vd_gathering.specs.Gathering.{all_found}
+use Rattle.vd_walks.specs.Gathering.{all_found}
 use Rattle.vd_meaning.specs.Brackets.{or_else}
 use Rattle.vd_meaning.specs.Facets.{Meaning, flattened, no_meaning}
 use Rattle.vd_meaning.specs.Kinds.{kind}

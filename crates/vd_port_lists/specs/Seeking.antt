@@ -1,9 +1,9 @@
 -- Where the lists of a design's interfaces stand in its tree: which trees side by side are looked at, and what is looked for in them.
 use Rattle.std.specs.Prelude.{◌-◌, ◌==◌, ◌++◌, ◌∷◌, Bool, List, None, Option, Some, [], false, if◌then◌else◌, true, ℕ}
-use Rattle.vd_finding.specs.Finding.{Finder}
+use Rattle.vd_walks.specs.Finding.{Finder}
 use Rattle.vd_forest.specs.Forest.{Forest, more, nothing, skipped}
 use Rattle.vd_forms.specs.declared.form.Form.{Form}
-use Rattle.vd_gathering.specs.Gathering.{all_found}
+use Rattle.vd_walks.specs.Gathering.{all_found}
 use Rattle.vd_meaning.specs.Facets.{nth}
 use Rattle.vd_meaning.specs.Meanings.{made, meanings}
 use Rattle.vd_meaning.specs.Names.{number_or}

@@ -12,13 +12,12 @@ use crate::entries::ListedInstance;
 use crate::seeking::{Seeking, Sought, all_trees, for_next, is_here, nothing_sought};
 use std::alloc::{AllocError, Global};
 use vd_declarations::{DeclId, Declaration};
-use vd_facets::{declaration_of, number_made};
-use vd_finding::Finding;
 use vd_forest::{Cursor, Opened};
 use vd_forms::Form;
-use vd_gathering::find_all;
+use vd_operations::{declaration_of, number_made};
 use vd_resolved::{Resolved, Tree};
 use vd_trees::Revision;
+use vd_walks::{Finding, find_all};
 
 /// The instance that a node is.
 fn instance_by(node: &Resolved, parts: &Cursor<'_, Resolved>) -> Option<ListedInstance>

@@ -16,12 +16,11 @@ use crate::seeking::{
 };
 use std::alloc::{AllocError, Global};
 use vd_declarations::{DeclId, Declaration};
-use vd_finding::Finding;
 use vd_forest::{Cursor, Opened};
 use vd_forms::Form;
-use vd_gathering::find_all;
 use vd_resolved::{Resolved, Tree};
 use vd_trees::Revision;
+use vd_walks::{Finding, find_all};
 
 /// The port of a name.
 fn named_port(form: Form, number: Option<DeclId>, mode: PortMode) -> Option<ListedPort>

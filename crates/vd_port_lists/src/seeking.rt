@@ -5,9 +5,9 @@ ghost use Rattle.vd_meaning.specs.Tables.{Table};
 ghost use Rattle.vd_port_lists.specs.Seeking.{all_trees as all_of, behind, inside_element as element_inside, inside_names as names_inside, inside_port as port_inside, inside_unit as unit_inside, is_here as stands_here, mode_at as mode_of_first, nothing_sought as nothing_more, one_tree as one_of, plain_mode as mode_of_form};
 
 use crate::modes::{Mode, PortMode};
-use vd_facets::{declaration_of, is_present};
 use vd_forest::Cursor;
 use vd_forms::Form;
+use vd_operations::{declaration_of, is_present};
 use vd_resolved::Resolved;
 
 /// Which of the trees side by side, from this one on, are looked at.

@@ -16,13 +16,12 @@ use crate::seeking::{
 use std::alloc::{AllocError, Global};
 use vd_bytes::Text;
 use vd_declarations::{DeclId, Declaration};
-use vd_facets::{declaration_of, number_made, quoted};
-use vd_finding::Finding;
 use vd_forest::{Cursor, Opened};
 use vd_forms::Form;
-use vd_gathering::find_all;
+use vd_operations::{declaration_of, number_made, quoted};
 use vd_resolved::{Resolved, Tree};
 use vd_trees::Revision;
+use vd_walks::{Finding, find_all};
 
 /// A view: its declaration, the mark of its record type, and its elements.
 #[derive(Drop)]

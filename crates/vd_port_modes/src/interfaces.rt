@@ -4,7 +4,7 @@ ghost use Rattle.std.specs.Prelude.{◌≡◌, IfOk, List, Some, [], length, map
 ghost use Rattle.std.specs.HashMap.{get};
 ghost use Rattle.vd_meaning.specs.Elaborations.{mode_as, number_as};
 ghost use Rattle.vd_meaning.specs.Instances.{element_mode, view_in};
-ghost use Rattle.vd_facets.specs.Roles.{read_role};
+ghost use Rattle.vd_operations.specs.Roles.{read_role};
 ghost use Rattle.vd_meaning.specs.Tables.{role_of as role_in};
 ghost use Rattle.vd_port_lists.specs.Listed.{read_view};
 ghost use Rattle.vd_port_lists.specs.Modes.{read_mode};
@@ -22,7 +22,7 @@ use std::alloc::{AllocError, Global};
 use std::collections::HashMap;
 use std::marker::Model;
 use vd_declarations::{DeclId, Declaration};
-use vd_facets::{Role, role_of};
+use vd_operations::{Role, role_of};
 use vd_port_lists::{
     ListedElement, ListedInstance, ListedView, Mode, PortMode, listed_instances, listed_ports,
     listed_views,

@@ -2,7 +2,7 @@
 
 ghost use Rattle.std.specs.Prelude.{◌≡◌, None, Option, Some, drop, map};
 ghost use Rattle.vd_meaning.specs.Building.{is_output as is_out};
-ghost use Rattle.vd_facets.specs.Roles.{read_role};
+ghost use Rattle.vd_operations.specs.Roles.{read_role};
 ghost use Rattle.vd_meaning.specs.Tables.{role_of as role_named};
 ghost use Rattle.vd_port_modes.specs.Readings.{read_fields, read_oriented, read_oriented_some, read_plain_some, read_reached, read_text};
 ghost use Rattle.vd_port_modes.specs.Source.{design_in};
@@ -14,7 +14,7 @@ use crate::found::{Oriented, is_view, mode_in, straight};
 use crate::interfaces::Interfaces;
 use crate::reaching::{Reached, is_over};
 use vd_declarations::{Class, DeclId};
-use vd_facets::Role;
+use vd_operations::Role;
 use vd_operations::tables::class_of;
 use vd_port_lists::Mode;
 

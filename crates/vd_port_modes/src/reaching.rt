@@ -1,7 +1,7 @@
 //! What names name: an object and the fields that are selected in it, before an attribute or a call makes something else of it.
 
 ghost use Rattle.std.specs.Prelude.{◌≡◌, IfOk, codes, if◌then◌else◌};
-ghost use Rattle.vd_facets.specs.Roles.{read_role};
+ghost use Rattle.vd_operations.specs.Roles.{read_role};
 ghost use Rattle.vd_meaning.specs.Tables.{role_of as role_named};
 ghost use Rattle.vd_port_modes.specs.Readings.{attribute_behind, field_behind, read_reached, value_of_reached};
 ghost use Rattle.vd_port_modes.specs.Source.{design_in};
@@ -10,9 +10,9 @@ ghost use Rattle.vd_value_rules.specs.Reaching.{bracketed_in, first_reached as f
 use crate::interfaces::Interfaces;
 use std::alloc::{AllocError, Global};
 use vd_declarations::DeclId;
-use vd_facets::Role;
 use vd_forest::{Cursor, Opened};
 use vd_forms::Form;
+use vd_operations::Role;
 use vd_operations::tables::name_of;
 use vd_resolved::Resolved;
 

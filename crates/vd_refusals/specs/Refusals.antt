@@ -6,17 +6,17 @@ use Rattle.vd_bytes.specs.declared.places.Place.{Place}
 use Rattle.vd_bytes.specs.declared.answers.Refused.{Refused}
 use Rattle.vd_declarations.specs.declared.classes.Class.{Class}
 use Rattle.vd_declarations.specs.declared.classes.Class.TheVariants as class
-use Rattle.vd_finding.specs.Finding.{Finder, first_found}
+use Rattle.vd_walks.specs.Finding.{Finder, first_found}
 use Rattle.vd_forest.specs.Forest.{Forest, text_of, place_of}
 use Rattle.vd_forms.specs.declared.form.Form.{Form}
 use Rattle.vd_states.specs.declared.states.Want.{Want}
 use Rattle.vd_states.specs.declared.states.Want.TheVariants as want
-use Rattle.vd_sights.specs.declared.kinds.Kind.{Kind}
-use Rattle.vd_sights.specs.declared.kinds.Kind.TheVariants as kind
-use Rattle.vd_sights.specs.declared.attributes.Attribute.TheVariants as attribute
-use Rattle.vd_sights.specs.Kinds.{kind_of, attribute_named}
-use Rattle.vd_sights.specs.Sights.{Sight, class_of}
-use Rattle.vd_sights.specs.Lists.{simple_name}
+use Rattle.vd_visible.specs.declared.kinds.Kind.{Kind}
+use Rattle.vd_visible.specs.declared.kinds.Kind.TheVariants as kind
+use Rattle.vd_visible.specs.declared.attributes.Attribute.TheVariants as attribute
+use Rattle.vd_visible.specs.Kinds.{kind_of, attribute_named}
+use Rattle.vd_visible.specs.Sights.{Sight, class_of}
+use Rattle.vd_visible.specs.Lists.{simple_name}
 use Rattle.vd_refusals.specs.declared.seen.Seen.{Seen}
 use Rattle.vd_refusals.specs.declared.seen.Seen.TheVariants as seen
 use Rattle.vd_refusals.specs.declared.spots.Need.{Need}

@@ -8,17 +8,17 @@ use Rattle.vd_declarations.specs.declared.classes.Class.TheVariants as class
 use Rattle.vd_declarations.specs.Classes.{is_overloadable}
 use Rattle.vd_forest.specs.Forest.{Forest, nothing, more, text_of}
 use Rattle.vd_forms.specs.declared.form.Form.{Form}
-use Rattle.vd_given.specs.declared.numbers.TheConstants.{TIME}
-use Rattle.vd_sights.specs.declared.kinds.Kind.{Kind}
-use Rattle.vd_sights.specs.declared.kinds.Kind.TheVariants as kind
-use Rattle.vd_sights.specs.declared.attributes.Attribute.{Attribute}
-use Rattle.vd_sights.specs.declared.attributes.Attribute.TheVariants as attribute
-use Rattle.vd_sights.specs.declared.roles.Role.{Role}
-use Rattle.vd_sights.specs.declared.roles.Role.TheVariants as role
-use Rattle.vd_sights.specs.Kinds.{kind_of, attribute_named, role_of}
-use Rattle.vd_sights.specs.Sights.{Sight, class_of, mark_of}
-use Rattle.vd_sights.specs.Types.{is_scalar, element_of, type_meant}
-use Rattle.vd_sights.specs.Lists.{elements_named}
+use Rattle.vd_predefined.specs.declared.numbers.TheConstants.{TIME}
+use Rattle.vd_visible.specs.declared.kinds.Kind.{Kind}
+use Rattle.vd_visible.specs.declared.kinds.Kind.TheVariants as kind
+use Rattle.vd_visible.specs.declared.attributes.Attribute.{Attribute}
+use Rattle.vd_visible.specs.declared.attributes.Attribute.TheVariants as attribute
+use Rattle.vd_visible.specs.declared.roles.Role.{Role}
+use Rattle.vd_visible.specs.declared.roles.Role.TheVariants as role
+use Rattle.vd_visible.specs.Kinds.{kind_of, attribute_named, role_of}
+use Rattle.vd_visible.specs.Sights.{Sight, class_of, mark_of}
+use Rattle.vd_visible.specs.Types.{is_scalar, element_of, type_meant}
+use Rattle.vd_visible.specs.Lists.{elements_named}
 use Rattle.vd_ways.specs.Ways.{symbol_name, selection_name}
 use Rattle.vd_refusals.specs.declared.seen.Seen.{Seen}
 use Rattle.vd_refusals.specs.declared.seen.Seen.TheVariants as seen

@@ -1,9 +1,9 @@
 //! The first refusal of an expression.
 
 ghost use Rattle.std.specs.Prelude.{◌≡◌, IfOk};
-ghost use Rattle.vd_finding.specs.Finding.{Finder};
-ghost use Rattle.vd_sights.specs.Kinds.{kind_of as kind_at};
-ghost use Rattle.vd_sights.specs.Sights.{sight_from};
+ghost use Rattle.vd_walks.specs.Finding.{Finder};
+ghost use Rattle.vd_visible.specs.Kinds.{kind_of as kind_at};
+ghost use Rattle.vd_visible.specs.Sights.{sight_from};
 ghost use Rattle.vd_refusals.specs.Refusals.{argument_need as need_of_argument, inside_brackets as within_brackets, inside_name as within_name, inside as spot_inside, behind as spot_behind, finder, need_of as need_of_want, first_refusal as refused_first};
 
 use crate::naming::{need_at, refused_node};
@@ -12,12 +12,12 @@ use crate::seen::Seen;
 use crate::spots::{Need, Spot};
 use std::alloc::{AllocError, Global};
 use vd_bytes::Refused;
-use vd_finding::{Finding, find_first};
 use vd_forest::{Cursor, Opened};
 use vd_forms::Form;
-use vd_sights::Surroundings;
-use vd_sights::kinds::{Kind, kind_of};
 use vd_states::Want;
+use vd_visible::Surroundings;
+use vd_visible::kinds::{Kind, kind_of};
+use vd_walks::{Finding, find_first};
 
 /// What is needed of an index or an argument.
 fn argument_need(seen: &Seen) -> Need

@@ -1,8 +1,8 @@
 //! What names and attributes are refused for.
 
 ghost use Rattle.std.specs.Prelude.{◌≡◌, IfOk};
-ghost use Rattle.vd_sights.specs.Kinds.{kind_of as kind_at};
-ghost use Rattle.vd_sights.specs.Sights.{sight_from, class_of};
+ghost use Rattle.vd_visible.specs.Kinds.{kind_of as kind_at};
+ghost use Rattle.vd_visible.specs.Sights.{sight_from, class_of};
 ghost use Rattle.vd_refusals.specs.Seen.{scalar_has as has_scalar, array_has as has_array, value_has, is_some_attribute as some_attribute, can_have};
 ghost use Rattle.vd_refusals.specs.Refusals.{refuses_mark as mark_refused, refuses_value as value_refused, refuses_others as others_refused, broken_by as rule_broken, refused_at as refusal_at, choice_need, need_at as need_of_place, refused_name, refused_expression, first_place_or as place_or, refused_unless as unless, refused_piece, is_unit as unit_class, refused_unit_among, refused_node};
 
@@ -14,12 +14,12 @@ use vd_bytes::{Place, Refused};
 use vd_declarations::{Class, DeclId, TypeId};
 use vd_forest::{Cursor, Opened};
 use vd_forms::Form;
-use vd_given::numbers::TIME;
-use vd_sights::Surroundings;
-use vd_sights::attributes::{Attribute, attribute_named};
-use vd_sights::kinds::{Kind, kind_of};
-use vd_sights::lists::simple_name;
-use vd_sights::types::{element_of, is_scalar};
+use vd_predefined::numbers::TIME;
+use vd_visible::Surroundings;
+use vd_visible::attributes::{Attribute, attribute_named};
+use vd_visible::kinds::{Kind, kind_of};
+use vd_visible::lists::simple_name;
+use vd_visible::types::{element_of, is_scalar};
 
 /// The rule that a mark breaks.
 fn refuses_mark(need: Need) -> Option<u16>

@@ -1,8 +1,8 @@
 //! What the pieces of a name are, by what is visible alone.
 
 ghost use Rattle.std.specs.Prelude.{◌≡◌, ◌||◌, IfOk, option_map};
-ghost use Rattle.vd_sights.specs.Kinds.{kind_of as kind_at, role_of as role_at};
-ghost use Rattle.vd_sights.specs.Sights.{sight_from, class_of, mark_of};
+ghost use Rattle.vd_visible.specs.Kinds.{kind_of as kind_at, role_of as role_at};
+ghost use Rattle.vd_visible.specs.Sights.{sight_from, class_of, mark_of};
 ghost use Rattle.vd_ways.specs.Ways.{selection_name as name_selected};
 ghost use Rattle.vd_refusals.specs.Seen.{value_seen as seen_value, mark_seen as seen_mark, other_seen as seen_other, role_seen, first_seen, head_seen, element_seen, missing_in as absent_in, declared_seen, selected_seen, selection_seen, is_reverse as reverse, is_range_piece as range_piece, has_range_piece as range_pieces, path_step, path_from, path_seen, is_mark_seen as seen_as_mark, is_range_name, is_range_form, is_range_at, part_seen as seen_part, bracket_seen, attribute_gives as given_by, attribute_seen as seen_attribute, qualification_seen as seen_qualification, piece_seen, pieces_seen, name_seen};
 
@@ -11,11 +11,11 @@ use std::alloc::{AllocError, Global};
 use vd_declarations::{Class, DeclId, TypeId};
 use vd_forest::Cursor;
 use vd_forms::Form;
-use vd_sights::Surroundings;
-use vd_sights::attributes::{Attribute, attribute_named};
-use vd_sights::kinds::{Kind, kind_of};
-use vd_sights::roles::{Role, role_of};
-use vd_sights::types::element_of;
+use vd_visible::Surroundings;
+use vd_visible::attributes::{Attribute, attribute_named};
+use vd_visible::kinds::{Kind, kind_of};
+use vd_visible::roles::{Role, role_of};
+use vd_visible::types::element_of;
 use vd_ways::names::symbol_name;
 use vd_ways::suffixes::selection_name;
 

@@ -14,9 +14,9 @@ use Rattle.vd_value_rules.specs.declared.forms.IndicatedForm.TheVariants as form
 use Rattle.vd_value_rules.specs.declared.statics.StaticSort.{StaticSort}
 use Rattle.vd_meaning.specs.Declarations.{makes_of, subtypes_of}
 use Rattle.vd_meaning.specs.Names.{element_of_subtype, field_subtype, nth_subtype, scalars_of, sliced_subtype}
-use Rattle.vd_static_entries.specs.Names.{bounds_or_later, has_made_bounds, indicated_by, number_in}
-use Rattle.vd_static_entries.specs.declared.names.NameSubtype.{NameSubtype}
-use Rattle.vd_static_entries.specs.declared.names.NameSubtype.TheVariants.{Slice, Stored}
+use Rattle.vd_static_values.specs.Names.{bounds_or_later, has_made_bounds, indicated_by, number_in}
+use Rattle.vd_static_values.specs.declared.names.NameSubtype.{NameSubtype}
+use Rattle.vd_static_values.specs.declared.names.NameSubtype.TheVariants.{Slice, Stored}
 use Rattle.vd_value_rules.specs.Lengths.{or_none}
 
 pub data AsMany : Subtypes → Makes → Type 0 where

@@ -10,12 +10,12 @@ use Rattle.vd_value_rules.specs.Indicated.{field_indicated, fields_in, indicated
 use Rattle.vd_value_rules.specs.declared.forms.IndicatedForm.{IndicatedForm}
 use Rattle.vd_value_rules.specs.declared.forms.IndicatedForm.TheVariants as form
 use Rattle.vd_value_rules.specs.declared.statics.StaticSort.{StaticSort}
-use Rattle.vd_indicated_fields.specs.Jumps.{field_trees}
+use Rattle.vd_static_names.specs.Jumps.{field_trees}
 use Rattle.vd_meaning.specs.Declarations.{subtypes_of}
 use Rattle.vd_meaning.specs.Names.{field_subtype, nth_subtype}
-use Rattle.vd_static_entries.specs.Names.{indicated_by}
-use Rattle.vd_static_entries.specs.declared.names.NameSubtype.{NameSubtype}
-use Rattle.vd_static_entries.specs.declared.names.NameSubtype.TheVariants.{Slice, Stored}
+use Rattle.vd_static_values.specs.Names.{indicated_by}
+use Rattle.vd_static_values.specs.declared.names.NameSubtype.{NameSubtype}
+use Rattle.vd_static_values.specs.declared.names.NameSubtype.TheVariants.{Slice, Stored}
 use Rattle.vd_static_names.proofs.AlikeLemmas.{slice_has_no_field, slice_has_nothing}
 use Rattle.vd_static_names.specs.Parts.{IsField}
 

@@ -6,7 +6,7 @@ use Rattle.vd_composites.specs.declared.scalars.ScalarSubtype.{ScalarSubtype}
 use Rattle.vd_environments.specs.Environments.{or_senseless}
 use Rattle.vd_environments.specs.Got.{is_got}
 use Rattle.vd_meaning.specs.Names.{range_of_subtype, scalars_of}
-use Rattle.vd_static_entries.specs.Entries.{IsFound}
+use Rattle.vd_static_values.specs.Entries.{IsFound}
 use Rattle.vd_static_names.proofs.StopLemmas.{bind_stops}
 
 -- a range of a subtype

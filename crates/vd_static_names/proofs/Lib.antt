@@ -5,3 +5,4 @@ pub mod FieldLemmas
 pub mod FirstLemmas
 pub mod StopLemmas
 pub mod StepLemmas
+pub mod JumpLemmas

@@ -14,11 +14,11 @@ use Rattle.vd_value_rules.specs.Indicated.{element_indicated, field_indicated, i
 use Rattle.vd_value_rules.specs.declared.forms.IndicatedForm.{IndicatedForm}
 use Rattle.vd_value_rules.specs.declared.statics.StaticSort.{StaticSort}
 use Rattle.vd_meaning.specs.Names.{Stepping, bounds_of_subtype, element_of_subtype, field_subtype, sliced_bounds, sliced_subtype, to_element, to_field, to_slice}
-use Rattle.vd_static_entries.specs.Entries.{IsFound}
-use Rattle.vd_static_entries.specs.Names.{bounds_or_later, has_made_bounds, indicated_by, number_in}
-use Rattle.vd_static_entries.specs.declared.names.KnownName.{KnownName}
-use Rattle.vd_static_entries.specs.declared.names.NameSubtype.{NameSubtype}
-use Rattle.vd_static_entries.specs.declared.names.NameSubtype.TheVariants.{Slice, Stored}
+use Rattle.vd_static_values.specs.Entries.{IsFound}
+use Rattle.vd_static_values.specs.Names.{bounds_or_later, has_made_bounds, indicated_by, number_in}
+use Rattle.vd_static_values.specs.declared.names.KnownName.{KnownName}
+use Rattle.vd_static_values.specs.declared.names.NameSubtype.{NameSubtype}
+use Rattle.vd_static_values.specs.declared.names.NameSubtype.TheVariants.{Slice, Stored}
 use Rattle.vd_static_names.proofs.AlikeLemmas.{element_make_is, element_of_made, element_there, field_make_is, field_of_made, field_there, name_alike, slice_make_is, slice_of_made, slice_of_slice, slice_there}
 use Rattle.vd_static_names.proofs.StepLemmas.{IsPart}
 use Rattle.vd_static_names.specs.Parts.{slice_in}

@@ -11,9 +11,9 @@ use Rattle.vd_value_rules.specs.Indicated.{static_of}
 use Rattle.vd_value_rules.specs.declared.forms.IndicatedForm.{IndicatedForm}
 use Rattle.vd_value_rules.specs.declared.statics.StaticSort.{StaticSort}
 use Rattle.vd_meaning.specs.Names.{Named, Stepping, goes_on, part_of_value, shape_behind, shape_of_value, stepped, where_signal}
-use Rattle.vd_static_entries.specs.Entries.{IsFound}
-use Rattle.vd_static_entries.specs.Names.{IsName, Stops, has_made_bounds, indicated_by, number_in}
-use Rattle.vd_static_entries.specs.declared.names.KnownName.{KnownName}
+use Rattle.vd_static_values.specs.Entries.{IsFound}
+use Rattle.vd_static_values.specs.Names.{IsName, Stops, has_made_bounds, indicated_by, number_in}
+use Rattle.vd_static_values.specs.declared.names.KnownName.{KnownName}
 use Rattle.vd_static_names.proofs.StopLemmas.{bind_stops, left_true, right_true, some_prefix, stepped_stops, value_stops_with}
 use Rattle.vd_static_names.specs.Parts.{known_part}
 use Rattle.vd_static_names.specs.declared.steps.Part.{Part}

@@ -6,7 +6,7 @@ use Rattle.vd_composites.specs.Stops.{◌>>=◌}
 use Rattle.vd_environments.specs.Environments.{Env, Signals, read}
 use Rattle.vd_environments.specs.Got.{Got, got, is_got, senseless}
 use Rattle.vd_meaning.specs.Names.{Named, Stepping, part_of_value, part_prefix, part_signals, part_value, stepped, where_signal}
-use Rattle.vd_static_entries.specs.Names.{Stops}
+use Rattle.vd_static_values.specs.Names.{Stops}
 use Rattle.vd_values.specs.declared.scalar.Scalar.{Scalar}
 
 pub bind_stops : {A B : Type 0} (g : Got A) (f : A → Got B) → is_got g ≡ false → is_got (g >>= f) ≡ false

@@ -3,11 +3,11 @@ use Rattle.std.specs.Prelude.{◌≤◌, List, None, Option, Some, if◌then◌e
 use Rattle.vd_composites.specs.Composites.{Value}
 use Rattle.vd_forest.specs.Forest.{Forest}
 use Rattle.vd_value_rules.specs.declared.forms.IndicatedForm.{IndicatedForm}
-use Rattle.vd_static_entries.specs.Entries.{entry_at}
-use Rattle.vd_static_entries.specs.Names.{number_in}
-use Rattle.vd_static_entries.specs.declared.entries.Entry.{Entry}
-use Rattle.vd_static_entries.specs.declared.entries.Ground.{Ground}
-use Rattle.vd_static_entries.specs.declared.names.KnownName.{KnownName}
+use Rattle.vd_static_values.specs.Entries.{entry_at}
+use Rattle.vd_static_values.specs.Names.{number_in}
+use Rattle.vd_static_values.specs.declared.entries.Entry.{Entry}
+use Rattle.vd_static_values.specs.declared.entries.Ground.{Ground}
+use Rattle.vd_static_values.specs.declared.names.KnownName.{KnownName}
 use Rattle.vd_values.specs.declared.scalar.Scalar.{Scalar}
 
 -- the subtype of each declaration is in the store, and that of a name is

@@ -9,11 +9,11 @@ use Rattle.vd_forest.specs.Store.{at}
 use Rattle.vd_value_rules.specs.Indicated.{field_indicated, indicated_in}
 use Rattle.vd_value_rules.specs.declared.forms.IndicatedForm.{IndicatedForm}
 use Rattle.vd_meaning.specs.Names.{field_subtype, sliced_bounds}
-use Rattle.vd_static_entries.specs.Names.{indicated_by}
-use Rattle.vd_static_entries.specs.declared.names.KnownName.{KnownName}
-use Rattle.vd_static_entries.specs.declared.names.NameSubtype.{NameSubtype}
-use Rattle.vd_static_entries.specs.declared.names.NameSubtype.TheVariants.{Slice, Stored}
-use Rattle.vd_static_entries.specs.declared.names.Ranging.TheVariants.{NoRange}
+use Rattle.vd_static_values.specs.Names.{indicated_by}
+use Rattle.vd_static_values.specs.declared.names.KnownName.{KnownName}
+use Rattle.vd_static_values.specs.declared.names.NameSubtype.{NameSubtype}
+use Rattle.vd_static_values.specs.declared.names.NameSubtype.TheVariants.{Slice, Stored}
+use Rattle.vd_static_values.specs.declared.names.Ranging.TheVariants.{NoRange}
 use Rattle.vd_static_names.specs.declared.steps.Part.{Part}
 
 -- behind a step that is so static, and whose range is locally static where it is a slice

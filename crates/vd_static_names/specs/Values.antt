@@ -7,9 +7,9 @@ use Rattle.vd_environments.specs.Environments.{Env, Signals, Static}
 use Rattle.vd_environments.specs.Got.{Got}
 use Rattle.vd_value_rules.specs.declared.statics.StaticSort.{StaticSort}
 use Rattle.vd_meaning.specs.Names.{Named, no_name, shape_of_value, unless_stopped}
-use Rattle.vd_static_entries.specs.declared.names.KnownName.{KnownName}
-use Rattle.vd_static_entries.specs.declared.names.NameSubtype.TheVariants.{Stored}
-use Rattle.vd_static_entries.specs.declared.names.Ranging.{Ranging}
+use Rattle.vd_static_values.specs.declared.names.KnownName.{KnownName}
+use Rattle.vd_static_values.specs.declared.names.NameSubtype.TheVariants.{Stored}
+use Rattle.vd_static_values.specs.declared.names.Ranging.{Ranging}
 use Rattle.vd_values.specs.declared.scalar.Scalar.{Scalar}
 
 abbrev pub known_value : Option (Value Scalar) → StaticSort → Option Bounds → Ranging → KnownName

@@ -9,8 +9,8 @@ ghost use Rattle.vd_value_rules.specs.declared.forms.IndicatedForm.{IndicatedFor
 ghost use Rattle.vd_meaning.specs.Names.{call, call_known, calls_known as known_of_calls};
 ghost use Rattle.vd_meaning.specs.Operators.{function_of};
 ghost use Rattle.vd_meaning.specs.Tables.{Table};
-ghost use Rattle.vd_static_entries.specs.Entries.{IsFound, IsGround, table_of};
-ghost use Rattle.vd_static_entries.specs.Names.{IsName};
+ghost use Rattle.vd_static_values.specs.Entries.{IsFound, IsGround, table_of};
+ghost use Rattle.vd_static_values.specs.Names.{IsName};
 ghost use Rattle.vd_static_names.specs.Known.{IsWithin};
 
 use crate::grounds::known_of;
@@ -18,7 +18,7 @@ use crate::operators::is_local_operator;
 use crate::values::fresh;
 use vd_composites::Value;
 use vd_operations::is_predefined;
-use vd_static_entries::{Ground, KnownName};
+use vd_static_values::{Ground, KnownName};
 use vd_value_rules::StaticSort;
 
 /// How static the calls of a function can be.

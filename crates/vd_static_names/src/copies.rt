@@ -4,7 +4,7 @@ ghost use Rattle.std.specs.Prelude.{◌≡◌, IfOk};
 
 use std::alloc::{AllocError, Global};
 use vd_composites::Value;
-use vd_static_entries::KnownName;
+use vd_static_values::KnownName;
 
 /// The same value once more.
 pub fn value_again(alloc: Global, value: &Option<Value>) -> Result<Option<Value>, AllocError>

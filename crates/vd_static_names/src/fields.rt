@@ -3,14 +3,14 @@
 ghost use Rattle.std.specs.Prelude.{◌≡◌, ◌≤◌, IfOk, is_some, length};
 ghost use Rattle.vd_forest.specs.Forest.{form_of, skipped};
 ghost use Rattle.vd_forest.specs.Store.{at};
-ghost use Rattle.vd_indicated_fields.specs.Jumps.{AreJumps, field_trees};
-ghost use Rattle.vd_static_entries.specs.Names.{number_in};
+ghost use Rattle.vd_static_names.specs.Jumps.{AreJumps, field_trees};
+ghost use Rattle.vd_static_values.specs.Names.{number_in};
 ghost use Rattle.vd_static_names.specs.Parts.{IsField};
 
+use crate::FieldTable;
 use std::alloc::AllocError;
 use vd_forest::Store;
-use vd_indicated_fields::FieldTable;
-use vd_static_entries::NameSubtype;
+use vd_static_values::NameSubtype;
 use vd_value_rules::IndicatedForm;
 
 /// Whether there is a tree.

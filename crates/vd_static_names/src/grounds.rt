@@ -1,12 +1,12 @@
 //! What is known of declarations, by their numbers.
 
 ghost use Rattle.std.specs.Prelude.{◌≡◌, IfOk};
-ghost use Rattle.vd_static_entries.specs.Entries.{entry_at, value_shape as shape_of_values, signal_shape as shape_of_signals};
+ghost use Rattle.vd_static_values.specs.Entries.{entry_at, value_shape as shape_of_values, signal_shape as shape_of_signals};
 ghost use Rattle.vd_static_names.specs.Known.{early_value as value_early};
 
 use std::alloc::{AllocError, Global};
 use vd_composites::{Bounds, Value};
-use vd_static_entries::Ground;
+use vd_static_values::Ground;
 use vd_value_rules::StaticSort;
 
 /// The subtype of an object or a mark, or of a function's result, by its number in the store.

@@ -7,21 +7,21 @@ ghost use Rattle.vd_environments.specs.Environments.{Env, Signals, Static, or_se
 ghost use Rattle.vd_environments.specs.Got.{Got, is_got};
 ghost use Rattle.vd_forest.specs.Store.{at};
 ghost use Rattle.vd_value_rules.specs.Indicated.{indicated_in, static_of};
-ghost use Rattle.vd_indicated_fields.specs.Jumps.{AreJumps};
+ghost use Rattle.vd_static_names.specs.Jumps.{AreJumps};
 ghost use Rattle.vd_meaning.specs.Names.{Named, bounds_of_subtype, element_of_subtype, stepped, to_element, to_field, to_slice};
-ghost use Rattle.vd_static_entries.specs.Entries.{IsFound};
-ghost use Rattle.vd_static_entries.specs.Names.{IsName, number_in};
+ghost use Rattle.vd_static_values.specs.Entries.{IsFound};
+ghost use Rattle.vd_static_values.specs.Names.{IsName, number_in};
 ghost use Rattle.vd_static_names.specs.Known.{IsWithin};
 ghost use Rattle.vd_static_names.specs.Parts.{IsField, bounds_within, known_part, slice_in as slice_of_name};
 ghost use Rattle.vd_values.specs.declared.scalar.Scalar.{Scalar};
 
+use crate::FieldTable;
 use crate::fields::{field_in_table, field_of, is_tree};
 use crate::subtypes::{element_of, is_array, number_of, sliced};
 use std::alloc::AllocError;
 use vd_composites::Bounds;
 use vd_forest::Store;
-use vd_indicated_fields::FieldTable;
-use vd_static_entries::{KnownName, NameSubtype, Ranging};
+use vd_static_values::{KnownName, NameSubtype, Ranging};
 use vd_value_rules::array_facts::array_bounds;
 use vd_value_rules::{IndicatedForm, StaticSort};
 

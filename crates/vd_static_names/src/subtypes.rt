@@ -8,12 +8,12 @@ ghost use Rattle.vd_forest.specs.Store.{at};
 ghost use Rattle.vd_value_rules.specs.Indicated.{element_indicated, indicated_in, static_of};
 ghost use Rattle.vd_value_rules.specs.declared.forms.IndicatedForm.{IndicatedForm as Form};
 ghost use Rattle.vd_meaning.specs.Names.{element_of_subtype, range_of_subtype, scalars_of};
-ghost use Rattle.vd_static_entries.specs.Entries.{IsFound};
-ghost use Rattle.vd_static_entries.specs.Names.{indicated_by, number_in};
+ghost use Rattle.vd_static_values.specs.Entries.{IsFound};
+ghost use Rattle.vd_static_values.specs.Names.{indicated_by, number_in};
 
 use vd_composites::{Bounds, ScalarSubtype};
 use vd_forest::{Cursor, Store};
-use vd_static_entries::NameSubtype;
+use vd_static_values::NameSubtype;
 use vd_value_rules::subtypes::{own_bounds as stored_bounds, scalar};
 use vd_value_rules::{IndicatedForm, StaticSort};
 

@@ -9,14 +9,14 @@ ghost use Rattle.vd_forest.specs.Forest.{Forest};
 ghost use Rattle.vd_value_rules.specs.Indicated.{static_of};
 ghost use Rattle.vd_value_rules.specs.declared.forms.IndicatedForm.{IndicatedForm as Form};
 ghost use Rattle.vd_meaning.specs.Names.{fresh as fresh_named, no_name as nothing_named};
-ghost use Rattle.vd_static_entries.specs.Entries.{IsFound};
-ghost use Rattle.vd_static_entries.specs.Names.{IsName};
+ghost use Rattle.vd_static_values.specs.Entries.{IsFound};
+ghost use Rattle.vd_static_values.specs.Names.{IsName};
 ghost use Rattle.vd_static_names.specs.Known.{IsWithin};
 ghost use Rattle.vd_static_names.specs.Values.{bounds_behind, known_value, range_named};
 ghost use Rattle.vd_values.specs.declared.scalar.Scalar.{Scalar};
 
 use vd_composites::{Bounds, Value};
-use vd_static_entries::{KnownName, NameSubtype, Ranging};
+use vd_static_values::{KnownName, NameSubtype, Ranging};
 use vd_value_rules::StaticSort;
 
 /// What is no object and no part of one.

@@ -6,10 +6,10 @@ use Rattle.vd_forest.specs.Forest.{Forest}
 use Rattle.vd_value_rules.specs.declared.forms.IndicatedForm.{IndicatedForm}
 use Rattle.vd_meaning.specs.Brackets.{argument_in, arguments_for, is_positional, named_argument, names_it, nth_positional, or_else}
 use Rattle.vd_meaning.specs.Facets.{Choice, Meaning, known_of}
-use Rattle.vd_static_entries.specs.Entries.{IsFound}
-use Rattle.vd_static_entries.specs.Nodes.{AreNodes, IsNode}
-use Rattle.vd_static_entries.specs.Senses.{association_of}
-use Rattle.vd_static_entries.specs.declared.nodes.Node.{Node}
+use Rattle.vd_static_values.specs.Entries.{IsFound}
+use Rattle.vd_static_values.specs.Nodes.{AreNodes, IsNode}
+use Rattle.vd_static_values.specs.Senses.{association_of}
+use Rattle.vd_static_values.specs.declared.nodes.Node.{Node}
 use Rattle.vd_static_names.proofs.StopLemmas.{left_true, right_true}
 use Rattle.vd_static_nodes.specs.Arguments.{argument_for, element_at, element_naming, is_parameter, value_in, values_for}
 use Rattle.vd_static_values.specs.Operands.{AreOperands}

@@ -13,8 +13,8 @@ use Rattle.vd_meaning.specs.Names.{Named, call, fresh}
 use Rattle.vd_meaning.specs.Operators.{Apply, Edge, Join, Lazily, NoOperation, Operation, TruthText, edge}
 use Rattle.vd_meaning.specs.Tables.{Table}
 use Rattle.vd_resolved.specs.declared.node.Resolved.{Resolved}
-use Rattle.vd_static_entries.specs.Names.{IsName}
-use Rattle.vd_static_entries.specs.declared.names.KnownName.{KnownName}
+use Rattle.vd_static_values.specs.Names.{IsName}
+use Rattle.vd_static_values.specs.declared.names.KnownName.{KnownName}
 use Rattle.vd_static_nodes.specs.Calls.{is_edge}
 use Rattle.vd_values.specs.declared.scalar.Scalar.{Scalar}
 

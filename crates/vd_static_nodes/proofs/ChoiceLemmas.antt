@@ -11,10 +11,10 @@ use Rattle.vd_value_rules.specs.declared.forms.IndicatedForm.{IndicatedForm}
 use Rattle.vd_meaning.specs.Brackets.{choice_known, choice_of, choices_known}
 use Rattle.vd_meaning.specs.Facets.{Comparison, Meaning, expression, of_node}
 use Rattle.vd_resolved.specs.declared.node.Resolved.{Resolved}
-use Rattle.vd_static_entries.specs.Nodes.{AreNodes}
-use Rattle.vd_static_entries.specs.Senses.{IsSense}
-use Rattle.vd_static_entries.specs.declared.nodes.Node.{Node}
-use Rattle.vd_static_entries.specs.declared.senses.Sense.{Sense}
+use Rattle.vd_static_values.specs.Nodes.{AreNodes}
+use Rattle.vd_static_values.specs.Senses.{IsSense}
+use Rattle.vd_static_values.specs.declared.nodes.Node.{Node}
+use Rattle.vd_static_values.specs.declared.senses.Sense.{Sense}
 use Rattle.vd_static_nodes.specs.Choices.{known_among, known_with, named_among}
 use Rattle.vd_values.specs.declared.scalar.Scalar.{Scalar}
 

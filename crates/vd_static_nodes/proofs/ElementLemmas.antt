@@ -12,15 +12,15 @@ use Rattle.vd_value_rules.specs.declared.forms.IndicatedForm.{IndicatedForm}
 use Rattle.vd_value_rules.specs.declared.statics.StaticSort.{StaticSort}
 use Rattle.vd_meaning.specs.Facets.{Choice, Meaning, known_of, no_meaning, nth}
 use Rattle.vd_meaning.specs.Facets as facets
-use Rattle.vd_static_entries.specs.Entries.{IsFound}
-use Rattle.vd_static_entries.specs.Names.{IsRanging}
-use Rattle.vd_static_entries.specs.Nodes.{AreNodes, IsNode}
-use Rattle.vd_static_entries.specs.Senses.{IsSense}
-use Rattle.vd_static_entries.specs.declared.names.Ranging.{Ranging}
-use Rattle.vd_static_entries.specs.declared.names.Ranging.TheVariants.{NoRange, Range}
-use Rattle.vd_static_entries.specs.declared.nodes.Node.{Node}
-use Rattle.vd_static_entries.specs.declared.senses.Association.TheVariants.{ByChoices, ForOthers}
-use Rattle.vd_static_entries.specs.declared.senses.Sense.{Sense}
+use Rattle.vd_static_values.specs.Entries.{IsFound}
+use Rattle.vd_static_values.specs.Names.{IsRanging}
+use Rattle.vd_static_values.specs.Nodes.{AreNodes, IsNode}
+use Rattle.vd_static_values.specs.Senses.{IsSense}
+use Rattle.vd_static_values.specs.declared.names.Ranging.{Ranging}
+use Rattle.vd_static_values.specs.declared.names.Ranging.TheVariants.{NoRange, Range}
+use Rattle.vd_static_values.specs.declared.nodes.Node.{Node}
+use Rattle.vd_static_values.specs.declared.senses.Association.TheVariants.{ByChoices, ForOthers}
+use Rattle.vd_static_values.specs.declared.senses.Sense.{Sense}
 use Rattle.vd_static_nodes.specs.Elements.{IsExpression, choices_in}
 use Rattle.vd_static_parts.proofs.PartLemmas.{nth_local}
 

@@ -1,9 +1,9 @@
 -- What the declaration of a first piece stands for, by its role.
 use Rattle.std.proofs.Common.{◌≡◌, None, Ok, Option, Some, [], false, is_some, refl, subst, true, ℕ}
 use Rattle.vd_environments.specs.Environments.{always}
-use Rattle.vd_facets.specs.Roles.{read_role}
-use Rattle.vd_facets.specs.declared.roles.Role.{Role as WrittenRole}
-use Rattle.vd_facets.specs.declared.roles.Role.TheVariants as written
+use Rattle.vd_operations.specs.Roles.{read_role}
+use Rattle.vd_operations.specs.declared.roles.Role.{Role as WrittenRole}
+use Rattle.vd_operations.specs.declared.roles.Role.TheVariants as written
 use Rattle.vd_meaning.specs.Meanings.{selection_piece}
 use Rattle.vd_meaning.specs.Names.{Named, call, called_here, first_piece, no_name, number_or, standing}
 use Rattle.vd_meaning.specs.Tables.{Role, Table, followed, role_of}

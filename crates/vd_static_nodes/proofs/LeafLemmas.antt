@@ -4,8 +4,8 @@ use Rattle.vd_environments.specs.Environments.{Env}
 use Rattle.vd_forest.specs.Forest.{Forest}
 use Rattle.vd_value_rules.specs.declared.forms.IndicatedForm.{IndicatedForm}
 use Rattle.vd_meaning.specs.Facets.{Meaning}
-use Rattle.vd_static_entries.specs.Nodes.{IsNode}
-use Rattle.vd_static_entries.specs.declared.nodes.Node.{Node}
+use Rattle.vd_static_values.specs.Nodes.{IsNode}
+use Rattle.vd_static_values.specs.declared.nodes.Node.{Node}
 use Rattle.vd_static_parts.proofs.NodeLemmas.{unseen}
 
 -- the texts and numbers that a node declares count for nothing where its value is looked for

@@ -5,10 +5,10 @@ use Rattle.vd_forest.specs.Forest.{Forest}
 use Rattle.vd_value_rules.specs.declared.forms.IndicatedForm.{IndicatedForm}
 use Rattle.vd_meaning.specs.Facets.{Meaning, last_of, of_node}
 use Rattle.vd_resolved.specs.declared.node.Resolved.{Resolved}
-use Rattle.vd_static_entries.specs.Nodes.{AreNodes, IsNode}
-use Rattle.vd_static_entries.specs.Senses.{IsSense}
-use Rattle.vd_static_entries.specs.declared.nodes.Node.{Node}
-use Rattle.vd_static_entries.specs.declared.senses.Sense.{Sense}
+use Rattle.vd_static_values.specs.Nodes.{AreNodes, IsNode}
+use Rattle.vd_static_values.specs.Senses.{IsSense}
+use Rattle.vd_static_values.specs.declared.nodes.Node.{Node}
+use Rattle.vd_static_values.specs.declared.senses.Sense.{Sense}
 use Rattle.vd_static_parts.proofs.PartLemmas.{last_part}
 use Rattle.vd_static_parts.specs.Parts.{IsPart}
 

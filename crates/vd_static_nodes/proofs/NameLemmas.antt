@@ -7,11 +7,11 @@ use Rattle.vd_meaning.specs.Facets.{Meaning, from}
 use Rattle.vd_meaning.specs.Meanings.{named_by}
 use Rattle.vd_meaning.specs.Names.{Attributed, Callee, Named, NoCallee}
 use Rattle.vd_meaning.specs.Names as names
-use Rattle.vd_static_entries.specs.Names.{IsName, callee_of, type_attribute}
-use Rattle.vd_static_entries.specs.Nodes.{AreNodes, IsPiece}
-use Rattle.vd_static_entries.specs.declared.names.KnownName.{KnownName}
-use Rattle.vd_static_entries.specs.declared.names.TypeAttribute.{TypeAttribute}
-use Rattle.vd_static_entries.specs.declared.nodes.Node.{Node}
+use Rattle.vd_static_values.specs.Names.{IsName, callee_of, type_attribute}
+use Rattle.vd_static_values.specs.Nodes.{AreNodes, IsPiece}
+use Rattle.vd_static_values.specs.declared.names.KnownName.{KnownName}
+use Rattle.vd_static_values.specs.declared.names.TypeAttribute.{TypeAttribute}
+use Rattle.vd_static_values.specs.declared.nodes.Node.{Node}
 
 -- ---- what a next piece calls
 

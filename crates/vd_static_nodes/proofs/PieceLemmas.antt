@@ -3,9 +3,9 @@ use Rattle.std.proofs.Common.{◌≡◌, ◌≢◌, List, None, Option, Some, ap
 use Rattle.vd_environments.specs.Environments.{Env}
 use Rattle.vd_composites.specs.declared.ranges.Bounds.{Bounds}
 use Rattle.vd_environments.specs.Got.{Got}
-use Rattle.vd_facets.specs.Roles.{read_role}
-use Rattle.vd_facets.specs.declared.roles.Role.{Role as WrittenRole}
-use Rattle.vd_facets.specs.declared.roles.Role.TheVariants as written
+use Rattle.vd_operations.specs.Roles.{read_role}
+use Rattle.vd_operations.specs.declared.roles.Role.{Role as WrittenRole}
+use Rattle.vd_operations.specs.declared.roles.Role.TheVariants as written
 use Rattle.vd_forest.specs.Forest.{Forest}
 use Rattle.vd_value_rules.specs.Indicated.{static_of}
 use Rattle.vd_value_rules.specs.declared.forms.IndicatedForm.{IndicatedForm}
@@ -14,13 +14,13 @@ use Rattle.vd_meaning.specs.Facets.{Meaning, nth, value_of}
 use Rattle.vd_meaning.specs.Names.{Callee, Named}
 use Rattle.vd_meaning.specs.Tables.{Table, role_of}
 use Rattle.vd_resolved.specs.declared.node.Resolved.{Resolved}
-use Rattle.vd_static_entries.specs.Entries.{IsFound}
-use Rattle.vd_static_entries.specs.Names.{IsRanging}
-use Rattle.vd_static_entries.specs.Nodes.{AreArguments, IsBracketed}
-use Rattle.vd_static_entries.specs.declared.names.Ranging.TheVariants.{NoRange, Range}
-use Rattle.vd_static_entries.specs.declared.nodes.Arguments.{Arguments}
-use Rattle.vd_static_entries.specs.declared.nodes.Bracketed.{Bracketed}
-use Rattle.vd_static_entries.specs.declared.nodes.Bracketed.TheVariants as bracketed
+use Rattle.vd_static_values.specs.Entries.{IsFound}
+use Rattle.vd_static_values.specs.Names.{IsRanging}
+use Rattle.vd_static_values.specs.Nodes.{AreArguments, IsBracketed}
+use Rattle.vd_static_values.specs.declared.names.Ranging.TheVariants.{NoRange, Range}
+use Rattle.vd_static_values.specs.declared.nodes.Arguments.{Arguments}
+use Rattle.vd_static_values.specs.declared.nodes.Bracketed.{Bracketed}
+use Rattle.vd_static_values.specs.declared.nodes.Bracketed.TheVariants as bracketed
 
 module _ (subtypes : List (Forest IndicatedForm)) (e : Env) (n : Resolved) (ms : List Meaning) (p : Named) where
   -- ---- indexes and slices

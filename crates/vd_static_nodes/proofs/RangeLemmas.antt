@@ -10,13 +10,13 @@ use Rattle.vd_value_rules.specs.declared.forms.IndicatedForm.{IndicatedForm}
 use Rattle.vd_meaning.specs.Facets.{Meaning, expression, known_of, nth, of_node, value_of}
 use Rattle.vd_meaning.specs.Names.{name_bounds, position_in}
 use Rattle.vd_resolved.specs.declared.node.Resolved.{Resolved}
-use Rattle.vd_static_entries.specs.Entries.{IsFound}
-use Rattle.vd_static_entries.specs.Names.{IsRanging}
-use Rattle.vd_static_entries.specs.Nodes.{AreNodes}
-use Rattle.vd_static_entries.specs.Senses.{IsSense}
-use Rattle.vd_static_entries.specs.declared.names.Ranging.{Ranging}
-use Rattle.vd_static_entries.specs.declared.nodes.Node.{Node}
-use Rattle.vd_static_entries.specs.declared.senses.Sense.{Sense}
+use Rattle.vd_static_values.specs.Entries.{IsFound}
+use Rattle.vd_static_values.specs.Names.{IsRanging}
+use Rattle.vd_static_values.specs.Nodes.{AreNodes}
+use Rattle.vd_static_values.specs.Senses.{IsSense}
+use Rattle.vd_static_values.specs.declared.names.Ranging.{Ranging}
+use Rattle.vd_static_values.specs.declared.nodes.Node.{Node}
+use Rattle.vd_static_values.specs.declared.senses.Sense.{Sense}
 use Rattle.vd_static_parts.proofs.PartLemmas.{nth_here, nth_local, nth_missing}
 use Rattle.vd_static_nodes.specs.Ranges.{position_at}
 

@@ -4,8 +4,8 @@ use Rattle.std.specs.List.{find, list_any}
 use Rattle.vd_composites.specs.Composites.{Value}
 use Rattle.vd_meaning.specs.Brackets.{is_positional, or_else}
 use Rattle.vd_meaning.specs.Tables.{same_type}
-use Rattle.vd_static_entries.specs.Senses.{association_of}
-use Rattle.vd_static_entries.specs.declared.nodes.Node.{Node}
+use Rattle.vd_static_values.specs.Senses.{association_of}
+use Rattle.vd_static_values.specs.declared.nodes.Node.{Node}
 use Rattle.vd_values.specs.declared.scalar.Scalar.{Scalar}
 
 abbrev pub is_parameter : ℕ → Option ℕ → Bool

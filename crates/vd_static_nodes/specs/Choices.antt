@@ -2,7 +2,7 @@
 use Rattle.std.specs.Prelude.{List, None, Option, Some, map, ℕ}
 use Rattle.vd_environments.specs.Environments.{Static, all_static, always}
 use Rattle.vd_value_rules.specs.Indicated.{static_of}
-use Rattle.vd_static_entries.specs.declared.nodes.Node.{Node}
+use Rattle.vd_static_values.specs.declared.nodes.Node.{Node}
 
 -- a choice without a type makes nothing less static
 abbrev pub known_with : Option ℕ → Static → Static

@@ -6,10 +6,10 @@ use Rattle.vd_environments.specs.Got.{Got}
 use Rattle.vd_forest.specs.Forest.{Forest}
 use Rattle.vd_value_rules.specs.declared.forms.IndicatedForm.{IndicatedForm}
 use Rattle.vd_meaning.specs.Facets.{Meaning, known_of, nth}
-use Rattle.vd_static_entries.specs.Entries.{IsFound}
-use Rattle.vd_static_entries.specs.Names.{IsRanging}
-use Rattle.vd_static_entries.specs.Nodes.{IsNode}
-use Rattle.vd_static_entries.specs.declared.nodes.Node.{Node}
+use Rattle.vd_static_values.specs.Entries.{IsFound}
+use Rattle.vd_static_values.specs.Names.{IsRanging}
+use Rattle.vd_static_values.specs.Nodes.{IsNode}
+use Rattle.vd_static_values.specs.declared.nodes.Node.{Node}
 
 -- what each choice names that the first part has
 abbrev pub choices_in : List Node → List (Option ℕ)

@@ -3,14 +3,14 @@
 ghost use Rattle.std.specs.Prelude.{◌≡◌, IfOk, option_copied};
 ghost use Rattle.std.specs.List.{list_any};
 ghost use Rattle.vd_meaning.specs.Brackets.{is_positional as is_by_position};
-ghost use Rattle.vd_static_entries.specs.Senses.{association_of};
+ghost use Rattle.vd_static_values.specs.Senses.{association_of};
 ghost use Rattle.vd_static_nodes.specs.Arguments.{argument_for as for_parameter, element_at as at_position, element_naming as naming, is_parameter, value_in, values_for as for_parameters};
 
 use std::alloc::{AllocError, Global};
 use vd_composites::Value;
 use vd_declarations::DeclId;
-use vd_static_entries::{Association, Node};
 use vd_static_names::copies::value_again;
+use vd_static_values::{Association, Node};
 
 /// Whether one of the choices of an element names a parameter.
 fn names_parameter(choices: &[Option<DeclId>], parameter: DeclId) -> bool

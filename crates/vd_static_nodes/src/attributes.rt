@@ -4,19 +4,19 @@ ghost use Rattle.std.specs.Prelude.{IfOk, List};
 ghost use Rattle.vd_forest.specs.Forest.{Forest};
 ghost use Rattle.vd_value_rules.specs.declared.forms.IndicatedForm.{IndicatedForm};
 ghost use Rattle.vd_meaning.specs.Kinds;
-ghost use Rattle.vd_static_entries.specs.declared.entries.Ground.{Ground as AnyGround};
-ghost use Rattle.vd_static_entries.specs.declared.nodes.Node.{Node as AnyNode};
+ghost use Rattle.vd_static_values.specs.declared.entries.Ground.{Ground as AnyGround};
+ghost use Rattle.vd_static_values.specs.declared.nodes.Node.{Node as AnyNode};
 ghost use Rattle.vd_static_names.specs.Known.{HasSubtypes};
 ghost use Rattle.vd_static_parts.specs.Made.{IsMade, IsSound};
 
 use std::alloc::{AllocError, Global};
 use vd_resolved::Resolved;
-use vd_static_entries::{Ground, Node, Piece};
 use vd_static_parts::brackets::{bracketed_known, bracketed_value};
 use vd_static_parts::nodes::piece;
 use vd_static_parts::numbers::number_or;
 use vd_static_parts::parts::text_of;
 use vd_static_parts::qualified;
+use vd_static_values::{Ground, Node, Piece};
 
 /// An attribute.
 pub fn attribute_piece<'a>(

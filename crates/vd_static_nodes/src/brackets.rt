@@ -13,9 +13,9 @@ ghost use Rattle.vd_meaning.specs.Names.{Named, call_known, conversion_of, numbe
 ghost use Rattle.vd_meaning.specs.Operators.{function_of};
 ghost use Rattle.vd_meaning.specs.Tables.{is_vector as is_vector_type, role_of as role_in};
 ghost use Rattle.vd_resolved.specs.declared.node.Resolved.{Resolved as AnyNode};
-ghost use Rattle.vd_static_entries.specs.Entries.{IsFound, IsGround, table_of};
-ghost use Rattle.vd_static_entries.specs.Names.{IsName};
-ghost use Rattle.vd_static_entries.specs.Nodes.{AreNodes, IsBracketed};
+ghost use Rattle.vd_static_values.specs.Entries.{IsFound, IsGround, table_of};
+ghost use Rattle.vd_static_values.specs.Names.{IsName};
+ghost use Rattle.vd_static_values.specs.Nodes.{AreNodes, IsBracketed};
 ghost use Rattle.vd_static_names.specs.Known.{HasSubtypes, IsWithin};
 ghost use Rattle.vd_static_parts.specs.Made.{IsMade, IsSound, IsSoundBracketed};
 ghost use Rattle.vd_static_nodes.specs.Calls.{is_edge as is_edge_meant};
@@ -24,12 +24,10 @@ use crate::arguments::values_for;
 use crate::parts::{first_name, first_value};
 use std::alloc::{AllocError, Global};
 use vd_composites::Value;
-use vd_facets::{Role, role_of};
-use vd_given::numbers::{STD_LOGIC_VECTOR, STD_ULOGIC_VECTOR};
 use vd_operations::tables::{followed, is_predefined, parameters_of};
-use vd_operations::{Operation, operation_of};
+use vd_operations::{Operation, Role, operation_of, role_of};
+use vd_predefined::numbers::{STD_LOGIC_VECTOR, STD_ULOGIC_VECTOR};
 use vd_resolved::Resolved;
-use vd_static_entries::{Arguments, Bracketed, Ground, KnownName, Node, Piece, Ranging};
 use vd_static_names::calls::{called, calls_known};
 use vd_static_names::values::fresh;
 use vd_static_parts::calls::call_value;
@@ -37,6 +35,7 @@ use vd_static_parts::conversion;
 use vd_static_parts::nodes::piece;
 use vd_static_parts::numbers::{mark_number, number_or};
 use vd_static_parts::parts::{first_known, first_range, known_of};
+use vd_static_values::{Arguments, Bracketed, Ground, KnownName, Node, Piece, Ranging};
 use vd_value_rules::StaticSort;
 
 // ---- calls

@@ -5,16 +5,16 @@ ghost use Rattle.vd_forest.specs.Forest.{Forest};
 ghost use Rattle.vd_value_rules.specs.Indicated.{static_of};
 ghost use Rattle.vd_value_rules.specs.declared.forms.IndicatedForm.{IndicatedForm};
 ghost use Rattle.vd_meaning.specs.Kinds.{AnyChoice, ChoiceList};
-ghost use Rattle.vd_static_entries.specs.declared.entries.Ground.{Ground};
-ghost use Rattle.vd_static_entries.specs.declared.nodes.Node.{Node as ListedNode};
+ghost use Rattle.vd_static_values.specs.declared.entries.Ground.{Ground};
+ghost use Rattle.vd_static_values.specs.declared.nodes.Node.{Node as ListedNode};
 ghost use Rattle.vd_static_nodes.specs.Choices.{known_among, known_with, named_among};
 ghost use Rattle.vd_static_parts.specs.Made.{IsMade, IsSound};
 
 use std::alloc::{AllocError, Global};
 use vd_declarations::DeclId;
 use vd_resolved::Resolved;
-use vd_static_entries::{Node, Sense};
 use vd_static_parts::nodes::{expression, plain};
+use vd_static_values::{Node, Sense};
 use vd_value_rules::StaticSort;
 
 /// How static a choice is. One without a type is no expression and no range, and makes nothing less static.

@@ -8,19 +8,19 @@ ghost use Rattle.vd_value_rules.specs.declared.forms.IndicatedForm.{IndicatedFor
 ghost use Rattle.vd_meaning.specs.Facets.{Meaning, no_meaning, nth};
 ghost use Rattle.vd_meaning.specs.Kinds.{Associated, AssociatedOthers, OpenActual};
 ghost use Rattle.vd_resolved.specs.declared.node.Resolved.{Resolved as ResolvedNode};
-ghost use Rattle.vd_static_entries.specs.Nodes.{AreNodes};
-ghost use Rattle.vd_static_entries.specs.declared.entries.Ground.{Ground};
-ghost use Rattle.vd_static_entries.specs.declared.nodes.Node.{Node as ListedNode};
+ghost use Rattle.vd_static_values.specs.Nodes.{AreNodes};
+ghost use Rattle.vd_static_values.specs.declared.entries.Ground.{Ground};
+ghost use Rattle.vd_static_values.specs.declared.nodes.Node.{Node as ListedNode};
 ghost use Rattle.vd_static_nodes.specs.Elements.{IsExpression, choices_in};
 ghost use Rattle.vd_static_parts.specs.Made.{IsMade, IsSound};
 
 use std::alloc::{AllocError, Global};
 use vd_declarations::DeclId;
 use vd_resolved::Resolved;
-use vd_static_entries::{Association, Node, Ranging, Sense};
 use vd_static_parts::copies::{first_again, node_again};
 use vd_static_parts::nodes::{absent, plain};
 use vd_static_parts::parts::known_of;
+use vd_static_values::{Association, Node, Ranging, Sense};
 
 /// An expression that isn't there: it stops, however static all else is.
 fn no_expression<'a>(alloc: Global) -> Node<'a>

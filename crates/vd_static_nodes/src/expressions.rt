@@ -4,14 +4,13 @@ ghost use Rattle.std.specs.Prelude.{IfOk, List};
 ghost use Rattle.vd_forest.specs.Forest.{Forest};
 ghost use Rattle.vd_value_rules.specs.declared.forms.IndicatedForm.{IndicatedForm};
 ghost use Rattle.vd_meaning.specs.Kinds.{Brackets, Operator};
-ghost use Rattle.vd_static_entries.specs.declared.entries.Ground.{Ground as GroundOf};
+ghost use Rattle.vd_static_values.specs.declared.entries.Ground.{Ground as GroundOf};
 ghost use Rattle.vd_static_names.specs.Known.{HasSubtypes};
 ghost use Rattle.vd_static_parts.specs.Made.{IsMade, IsSound};
 
 use std::alloc::{AllocError, Global};
 use vd_operations::tables::followed;
 use vd_resolved::Resolved;
-use vd_static_entries::{Ground, Node};
 use vd_static_names::calls::calls_known;
 use vd_static_names::values::unless_stopped;
 use vd_static_parts::brackets::{bracketed_known, bracketed_value};
@@ -19,6 +18,7 @@ use vd_static_parts::calls::call_value;
 use vd_static_parts::nodes::expression;
 use vd_static_parts::numbers::number_or;
 use vd_static_parts::parts::{known_of, operands};
+use vd_static_values::{Ground, Node};
 
 /// An operator with its operands.
 pub fn operator<'a>(

@@ -5,22 +5,22 @@ ghost use Rattle.vd_environments.specs.Environments.{Env};
 ghost use Rattle.vd_value_rules.specs.Indicated.{static_of};
 ghost use Rattle.vd_meaning.specs.Names.{called_here as called_standing, calls_known as known_of_calls, first_piece as piece_standing};
 ghost use Rattle.vd_meaning.specs.Operators.{function_of};
-ghost use Rattle.vd_static_entries.specs.Entries.{IsFound, IsGround, table_of};
-ghost use Rattle.vd_static_entries.specs.Names.{IsName};
+ghost use Rattle.vd_static_values.specs.Entries.{IsFound, IsGround, table_of};
+ghost use Rattle.vd_static_values.specs.Names.{IsName};
 ghost use Rattle.vd_static_names.specs.Known.{HasSubtypes, IsWithin};
 
 use std::alloc::{AllocError, Global};
 use vd_composites::Value;
 use vd_declarations::TypeId;
-use vd_facets::{Role, role_of};
 use vd_operations::tables::followed;
+use vd_operations::{Role, role_of};
 use vd_resolved::Resolved;
-use vd_static_entries::{Ground, KnownName};
 use vd_static_names::calls::{called, calls_known};
 use vd_static_names::firsts::{literal, mark, object, signal};
 use vd_static_names::values::no_name;
 use vd_static_parts::calls::call_value;
 use vd_static_parts::numbers::number_or;
+use vd_static_values::{Ground, KnownName};
 use vd_value_rules::StaticSort;
 
 /// What a call without operands gives, where the calls of its function can be locally static.

@@ -8,9 +8,9 @@ ghost use Rattle.vd_value_rules.specs.declared.forms.IndicatedForm.{IndicatedFor
 ghost use Rattle.vd_meaning.specs.Kinds.{CharacterLiteral, NumberLiteral, StringLiteral, TimeLiteral};
 ghost use Rattle.vd_meaning.specs.Meanings.{string_value as value_of_string};
 ghost use Rattle.vd_meaning.specs.Names.{number_or};
-ghost use Rattle.vd_static_entries.specs.Entries.{IsFound, IsGround};
-ghost use Rattle.vd_static_entries.specs.declared.entries.Ground.{Ground as AnyGround};
-ghost use Rattle.vd_static_entries.specs.declared.nodes.Node.{Node as AnyNode};
+ghost use Rattle.vd_static_values.specs.Entries.{IsFound, IsGround};
+ghost use Rattle.vd_static_values.specs.declared.entries.Ground.{Ground as AnyGround};
+ghost use Rattle.vd_static_values.specs.declared.nodes.Node.{Node as AnyNode};
 ghost use Rattle.vd_static_names.specs.Known.{HasSubtypes};
 ghost use Rattle.vd_static_parts.specs.Made.{IsMade, IsSound};
 
@@ -19,14 +19,13 @@ use std::alloc::{AllocError, Global};
 use vd_composites::Value;
 use vd_declarations::TypeId;
 use vd_resolved::Resolved;
-use vd_static_entries::{Ground, Node};
 use vd_static_names::firsts::literal;
 use vd_static_names::grounds::{bounds_of, subtype_of};
 use vd_static_names::values::unless_stopped;
 use vd_static_parts::nodes::{expression, with_name};
 use vd_static_parts::numbers::mark_number;
 use vd_static_parts::parts::text_of;
-use vd_static_values::{integer, physical, string};
+use vd_static_values::{Ground, Node, integer, physical, string};
 use vd_value_rules::StaticSort;
 
 // ---- characters and strings

@@ -9,16 +9,16 @@ ghost use Rattle.vd_meaning.specs.Brackets.{or_else};
 ghost use Rattle.vd_meaning.specs.Facets.{Meaning, last_of};
 ghost use Rattle.vd_meaning.specs.Kinds.{MarkName, OpenIndex};
 ghost use Rattle.vd_resolved.specs.declared.node.Resolved.{Resolved as ResolvedNode};
-ghost use Rattle.vd_static_entries.specs.Nodes.{AreNodes};
-ghost use Rattle.vd_static_entries.specs.declared.entries.Ground.{Ground};
+ghost use Rattle.vd_static_values.specs.Nodes.{AreNodes};
+ghost use Rattle.vd_static_values.specs.declared.entries.Ground.{Ground};
 ghost use Rattle.vd_static_parts.specs.Made.{IsMade, IsSound};
 
 use std::alloc::{AllocError, Global};
 use vd_declarations::DeclId;
 use vd_resolved::Resolved;
-use vd_static_entries::{Node, Sense};
 use vd_static_parts::copies::first_again;
 use vd_static_parts::nodes::plain;
+use vd_static_values::{Node, Sense};
 
 /// The index of an array type of any bounds.
 pub fn open_index<'a>(alloc: Global, parts: &[Node<'a>]) -> Result<Node<'a>, AllocError>

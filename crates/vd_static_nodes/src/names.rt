@@ -2,27 +2,27 @@
 
 ghost use Rattle.std.specs.Prelude.{◌≡◌, All, IfOk, List, drop};
 ghost use Rattle.vd_environments.specs.Environments.{Env};
-ghost use Rattle.vd_indicated_fields.specs.Jumps.{AreJumps};
+ghost use Rattle.vd_static_names.specs.Jumps.{AreJumps};
 ghost use Rattle.vd_meaning.specs.Facets.{Meaning};
 ghost use Rattle.vd_meaning.specs.Kinds;
 ghost use Rattle.vd_meaning.specs.Meanings.{named_by};
 ghost use Rattle.vd_meaning.specs.Names.{Named};
-ghost use Rattle.vd_static_entries.specs.Entries.{IsGround};
-ghost use Rattle.vd_static_entries.specs.Names.{IsName};
-ghost use Rattle.vd_static_entries.specs.Nodes.{AreArguments, AreNodes, IsPiece};
+ghost use Rattle.vd_static_values.specs.Entries.{IsGround};
+ghost use Rattle.vd_static_values.specs.Names.{IsName};
+ghost use Rattle.vd_static_values.specs.Nodes.{AreArguments, AreNodes, IsPiece};
 ghost use Rattle.vd_static_names.specs.Known.{HasSubtypes, IsWithin};
 ghost use Rattle.vd_static_parts.specs.Made.{IsMade, IsSound, IsSoundBracketed, IsSoundPiece};
 
 use crate::parts::first_name;
 use std::alloc::{AllocError, Global};
-use vd_indicated_fields::FieldTable;
 use vd_resolved::Resolved;
-use vd_static_entries::{Arguments, Bracketed, Ground, KnownName, Node, Piece};
+use vd_static_names::FieldTable;
 use vd_static_names::copies::again;
 use vd_static_names::steps::{element, field_by_table, slice};
 use vd_static_names::values::no_name;
 use vd_static_parts::nodes::named;
 use vd_static_parts::{attributed, range_of, type_attribute_piece};
+use vd_static_values::{Arguments, Bracketed, Ground, KnownName, Node, Piece};
 
 /// A name with a list in brackets: the argument of an attribute of a type, or what the list is by itself.
 fn with_arguments(

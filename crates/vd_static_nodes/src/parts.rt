@@ -5,17 +5,17 @@ ghost use Rattle.vd_environments.specs.Environments.{Env};
 ghost use Rattle.vd_forest.specs.Forest.{Forest};
 ghost use Rattle.vd_value_rules.specs.declared.forms.IndicatedForm.{IndicatedForm};
 ghost use Rattle.vd_meaning.specs.Facets.{Meaning, nth, value_of};
-ghost use Rattle.vd_static_entries.specs.Entries.{IsFound};
-ghost use Rattle.vd_static_entries.specs.Names.{IsName};
-ghost use Rattle.vd_static_entries.specs.Nodes.{AreNodes};
+ghost use Rattle.vd_static_values.specs.Entries.{IsFound};
+ghost use Rattle.vd_static_values.specs.Names.{IsName};
+ghost use Rattle.vd_static_values.specs.Nodes.{AreNodes};
 ghost use Rattle.vd_static_names.specs.Known.{IsWithin};
 ghost use Rattle.vd_static_parts.specs.Made.{IsSound};
 
 use std::alloc::{AllocError, Global};
 use vd_composites::Value;
-use vd_static_entries::{KnownName, Node};
 use vd_static_names::copies::{again, value_again};
 use vd_static_names::values::no_name;
+use vd_static_values::{KnownName, Node};
 
 /// The value of the first part, which counts only where it is locally static.
 pub(crate) fn first_value(alloc: Global, parts: &[Node<'_>]) -> Result<Option<Value>, AllocError>

@@ -12,10 +12,10 @@ ghost use Rattle.vd_value_rules.specs.declared.forms.IndicatedForm.{IndicatedFor
 ghost use Rattle.vd_meaning.specs.Facets.{Meaning, known_of as known_in, nth};
 ghost use Rattle.vd_meaning.specs.Kinds.{Constraint, Limits, LimitsOfMark};
 ghost use Rattle.vd_meaning.specs.Meanings.{limits as limits_between, limits_of_mark as limits_within};
-ghost use Rattle.vd_static_entries.specs.Entries.{IsFound};
-ghost use Rattle.vd_static_entries.specs.Names.{IsName, IsRanging};
-ghost use Rattle.vd_static_entries.specs.Nodes.{AreNodes, IsNode};
-ghost use Rattle.vd_static_entries.specs.declared.entries.Ground.{Ground as GroundOf};
+ghost use Rattle.vd_static_values.specs.Entries.{IsFound};
+ghost use Rattle.vd_static_values.specs.Names.{IsName, IsRanging};
+ghost use Rattle.vd_static_values.specs.Nodes.{AreNodes, IsNode};
+ghost use Rattle.vd_static_values.specs.declared.entries.Ground.{Ground as GroundOf};
 ghost use Rattle.vd_static_names.specs.Known.{IsWithin};
 ghost use Rattle.vd_static_parts.specs.Made.{IsMade, IsSound};
 ghost use Rattle.vd_static_nodes.specs.Ranges.{position_at, position_found, ranging_so};
@@ -26,11 +26,10 @@ use std::alloc::{AllocError, Global};
 use vd_composites::{Bounds, Value};
 use vd_forest::Store;
 use vd_resolved::Resolved;
-use vd_static_entries::{Ground, KnownName, Node, Ranging, Sense};
 use vd_static_names::values::unless_stopped;
 use vd_static_parts::nodes::expression;
 use vd_static_parts::parts::{first_known, first_range, known_of};
-use vd_static_values::position;
+use vd_static_values::{Ground, KnownName, Node, Ranging, Sense, position};
 use vd_value_rules::{IndicatedForm as Form, StaticSort};
 
 // ---- limits

@@ -6,14 +6,14 @@ ghost use Rattle.vd_environments.specs.Environments.{Env};
 ghost use Rattle.vd_environments.specs.Got.{got, is_got};
 ghost use Rattle.vd_value_rules.specs.Indicated.{indicated_in, static_of};
 ghost use Rattle.vd_meaning.specs.Names.{Named, name_bounds as bounds_of_name};
-ghost use Rattle.vd_static_entries.specs.Names.{IsName, indicated_by, number_in};
+ghost use Rattle.vd_static_values.specs.Names.{IsName, indicated_by, number_in};
 ghost use Rattle.vd_static_names.specs.Known.{IsWithin};
 ghost use Rattle.vd_static_nodes.specs.Ranges.{whole_range};
 
 use vd_composites::Bounds;
 use vd_forest::{Cursor, Store};
-use vd_static_entries::{KnownName, NameSubtype};
 use vd_static_names::subtypes::{own_bounds, scalar_of};
+use vd_static_values::{KnownName, NameSubtype};
 use vd_value_rules::array_facts::index;
 use vd_value_rules::subtypes::{has_bounds, scalar};
 use vd_value_rules::{IndicatedForm, StaticSort};

@@ -5,18 +5,18 @@ ghost use Rattle.vd_environments.specs.Environments.{Env};
 ghost use Rattle.vd_meaning.specs.Kinds.{SelectionPiece, Word};
 ghost use Rattle.vd_meaning.specs.Meanings.{selection_piece as piece_selected};
 ghost use Rattle.vd_meaning.specs.Tables.{role_of as role_in};
-ghost use Rattle.vd_static_entries.specs.Entries.{IsGround, table_of};
-ghost use Rattle.vd_static_entries.specs.Nodes.{IsPiece};
-ghost use Rattle.vd_static_entries.specs.declared.nodes.Node.{Node as AnyNode};
+ghost use Rattle.vd_static_values.specs.Entries.{IsGround, table_of};
+ghost use Rattle.vd_static_values.specs.Nodes.{IsPiece};
+ghost use Rattle.vd_static_values.specs.declared.nodes.Node.{Node as AnyNode};
 ghost use Rattle.vd_static_names.specs.Known.{HasSubtypes};
 ghost use Rattle.vd_static_parts.specs.Made.{IsMade, IsSound, IsSoundPiece};
 
 use crate::firsts::first_piece;
 use std::alloc::{AllocError, Global};
-use vd_facets::{Role, role_of};
+use vd_operations::{Role, role_of};
 use vd_resolved::Resolved;
-use vd_static_entries::{Ground, Node, Piece};
 use vd_static_parts::nodes::{piece, plain, with_name};
+use vd_static_values::{Ground, Node, Piece};
 
 /// An identifier.
 pub fn word<'a>(

@@ -16,9 +16,9 @@ use Rattle.vd_operators.specs.Applied.{applied}
 use Rattle.vd_operators.specs.declared.attributes.Side.{Side}
 use Rattle.vd_operators.specs.declared.op.Op.TheVariants.{SubtypeBound}
 use Rattle.vd_static_parts.specs.Attributes.{bound_by}
-use Rattle.vd_static_entries.specs.Entries.{IsFound}
-use Rattle.vd_static_entries.specs.Names.{IsName, has_made_bounds, subtype_found}
-use Rattle.vd_static_entries.specs.declared.names.KnownName.{KnownName}
+use Rattle.vd_static_values.specs.Entries.{IsFound}
+use Rattle.vd_static_values.specs.Names.{IsName, has_made_bounds, subtype_found}
+use Rattle.vd_static_values.specs.declared.names.KnownName.{KnownName}
 use Rattle.vd_static_names.proofs.StopLemmas.{left_true, right_true}
 use Rattle.vd_values.specs.declared.scalar.Scalar.{Scalar}
 

@@ -9,9 +9,9 @@ use Rattle.vd_value_rules.specs.declared.forms.IndicatedForm.{IndicatedForm}
 use Rattle.vd_meaning.specs.Brackets.{aggregate, bracketed_known, bracketed_value, is_positional}
 use Rattle.vd_meaning.specs.Facets.{Meaning, known_of}
 use Rattle.vd_meaning.specs.Facets as facets
-use Rattle.vd_static_entries.specs.Entries.{IsFound}
-use Rattle.vd_static_entries.specs.Nodes.{AreNodes, IsNode}
-use Rattle.vd_static_entries.specs.declared.nodes.Node.{Node}
+use Rattle.vd_static_values.specs.Entries.{IsFound}
+use Rattle.vd_static_values.specs.Nodes.{AreNodes, IsNode}
+use Rattle.vd_static_values.specs.declared.nodes.Node.{Node}
 use Rattle.vd_values.specs.declared.scalar.Scalar.{Scalar}
 
 -- ---- one part

@@ -8,8 +8,8 @@ use Rattle.vd_value_rules.specs.Indicated.{indicated_in}
 use Rattle.vd_meaning.specs.Names.{calls_known}
 use Rattle.vd_meaning.specs.Operators.{Operation, function_of, is_local_of, operate, operation, symbol}
 use Rattle.vd_meaning.specs.Tables.{Table, is_brought, is_predefined, operand_types}
-use Rattle.vd_static_entries.specs.Entries.{IsFound, IsFunction, IsGround, entry_at, operate_on, table_of}
-use Rattle.vd_static_entries.specs.declared.entries.Ground.{Ground}
+use Rattle.vd_static_values.specs.Entries.{IsFound, IsFunction, IsGround, entry_at, operate_on, table_of}
+use Rattle.vd_static_values.specs.declared.entries.Ground.{Ground}
 use Rattle.vd_static_values.proofs.OperationLemmas.{operated_at_mark}
 use Rattle.vd_value_rules.specs.Knowledge.{at_mark}
 use Rattle.vd_values.specs.declared.scalar.Scalar.{Scalar}

@@ -5,8 +5,8 @@ use Rattle.vd_forest.specs.Forest.{Forest}
 use Rattle.vd_value_rules.specs.declared.forms.IndicatedForm.{IndicatedForm}
 use Rattle.vd_meaning.specs.Names.{Named, tied_through}
 use Rattle.vd_static_parts.specs.Conversions.{known_through}
-use Rattle.vd_static_entries.specs.Names.{IsName}
-use Rattle.vd_static_entries.specs.declared.names.KnownName.{KnownName}
+use Rattle.vd_static_values.specs.Names.{IsName}
+use Rattle.vd_static_values.specs.declared.names.KnownName.{KnownName}
 
 module _ (subtypes : List (Forest IndicatedForm)) (e : Env) (x : KnownName) (c p : Named) (is : IsName subtypes e x c) (own : c.is_object ≡ false) where
   pub tied_known : (tied whole : Bool) → p.is_whole e ≡ whole → IsName subtypes e (known_through tied whole x) (tied_through tied p c)

@@ -8,8 +8,8 @@ use Rattle.vd_forest.specs.Forest.{Forest}
 use Rattle.vd_value_rules.specs.Indicated.{static_of}
 use Rattle.vd_value_rules.specs.declared.forms.IndicatedForm.{IndicatedForm}
 use Rattle.vd_meaning.specs.Facets.{Meaning, arguments, known_of}
-use Rattle.vd_static_entries.specs.Nodes.{AreNodes}
-use Rattle.vd_static_entries.specs.declared.nodes.Node.{Node}
+use Rattle.vd_static_values.specs.Nodes.{AreNodes}
+use Rattle.vd_static_values.specs.declared.nodes.Node.{Node}
 use Rattle.vd_static_names.proofs.StopLemmas.{left_true, right_true}
 use Rattle.vd_static_values.specs.Operands.{AreOperands}
 use Rattle.vd_values.specs.declared.scalar.Scalar.{Scalar}

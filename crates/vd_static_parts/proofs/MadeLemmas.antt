@@ -5,10 +5,10 @@ use Rattle.vd_meaning.specs.Facets.{Meaning}
 use Rattle.vd_meaning.specs.Kinds
 use Rattle.vd_meaning.specs.Meanings.{meaning_of}
 use Rattle.vd_resolved.specs.declared.node.Resolved.{Resolved}
-use Rattle.vd_static_entries.specs.Entries.{IsGround, table_of}
-use Rattle.vd_static_entries.specs.Nodes.{AreNodes, IsNode}
-use Rattle.vd_static_entries.specs.declared.entries.Ground.{Ground}
-use Rattle.vd_static_entries.specs.declared.nodes.Node.{Node}
+use Rattle.vd_static_values.specs.Entries.{IsGround, table_of}
+use Rattle.vd_static_values.specs.Nodes.{AreNodes, IsNode}
+use Rattle.vd_static_values.specs.declared.entries.Ground.{Ground}
+use Rattle.vd_static_values.specs.declared.nodes.Node.{Node}
 use Rattle.vd_static_parts.specs.Made.{IsMade}
 
 -- what holds of a node, if there is one, in each environment makes it what it is to be

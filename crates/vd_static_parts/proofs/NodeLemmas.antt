@@ -11,12 +11,12 @@ use Rattle.vd_meaning.specs.Facets.{Comparison, Meaning, Waveform, expression}
 use Rattle.vd_meaning.specs.Meanings.{whole_name}
 use Rattle.vd_meaning.specs.Names.{Named}
 use Rattle.vd_resolved.specs.declared.node.Resolved.{Resolved}
-use Rattle.vd_static_entries.specs.Entries.{IsFound}
-use Rattle.vd_static_entries.specs.Names.{IsName, IsRanging}
-use Rattle.vd_static_entries.specs.Senses.{IsSense}
-use Rattle.vd_static_entries.specs.declared.names.KnownName.{KnownName}
-use Rattle.vd_static_entries.specs.declared.names.Ranging.{Ranging}
-use Rattle.vd_static_entries.specs.declared.senses.Sense.{Sense}
+use Rattle.vd_static_values.specs.Entries.{IsFound}
+use Rattle.vd_static_values.specs.Names.{IsName, IsRanging}
+use Rattle.vd_static_values.specs.Senses.{IsSense}
+use Rattle.vd_static_values.specs.declared.names.KnownName.{KnownName}
+use Rattle.vd_static_values.specs.declared.names.Ranging.{Ranging}
+use Rattle.vd_static_values.specs.declared.senses.Sense.{Sense}
 use Rattle.vd_values.specs.declared.scalar.Scalar.{Scalar}
 
 module _ (subtypes : List (Forest IndicatedForm)) (e : Env) (s : Sense) where

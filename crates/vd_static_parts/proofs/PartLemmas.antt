@@ -6,8 +6,8 @@ use Rattle.vd_environments.specs.Environments.{Env}
 use Rattle.vd_forest.specs.Forest.{Forest}
 use Rattle.vd_value_rules.specs.declared.forms.IndicatedForm.{IndicatedForm}
 use Rattle.vd_meaning.specs.Facets.{Meaning, known_of, last_of, no_meaning, nth}
-use Rattle.vd_static_entries.specs.Nodes.{AreNodes, IsNode}
-use Rattle.vd_static_entries.specs.declared.nodes.Node.{Node}
+use Rattle.vd_static_values.specs.Nodes.{AreNodes, IsNode}
+use Rattle.vd_static_values.specs.declared.nodes.Node.{Node}
 use Rattle.vd_static_names.proofs.StopLemmas.{left_true, right_true}
 use Rattle.vd_static_parts.specs.Made.{IsSound}
 use Rattle.vd_static_parts.specs.Parts.{IsPart}

@@ -5,7 +5,7 @@ use Rattle.vd_environments.specs.Got.{Got, is_got}
 use Rattle.vd_value_rules.specs.Indicated.{static_of}
 use Rattle.vd_value_rules.specs.declared.statics.StaticSort.{StaticSort}
 use Rattle.vd_meaning.specs.Names.{unless_stopped}
-use Rattle.vd_static_entries.specs.Entries.{IsFound}
+use Rattle.vd_static_values.specs.Entries.{IsFound}
 
 not_both : (b : Bool) → not b ≡ true → b ≡ true → ⊥
 not_both true unlike like = cc

@@ -13,7 +13,7 @@ use Rattle.vd_operators.specs.declared.op.Op.TheVariants.{Unary}
 use Rattle.vd_operators.specs.declared.op.UnaryOp.TheVariants as one
 use Rattle.vd_static_parts.specs.declared.named.NameAttribute.{NameAttribute}
 use Rattle.vd_static_parts.specs.declared.named.NameAttribute.TheVariants as attribute
-use Rattle.vd_static_entries.specs.Names.{type_attribute}
+use Rattle.vd_static_values.specs.Names.{type_attribute}
 use Rattle.vd_values.specs.declared.scalar.Scalar.{Scalar}
 
 abbrev pub read_attribute : NameAttribute → Attribute

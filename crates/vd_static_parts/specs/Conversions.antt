@@ -5,7 +5,7 @@ use Rattle.vd_composites.specs.Stops.{◌>>=◌}
 use Rattle.vd_environments.specs.Environments.{Env}
 use Rattle.vd_environments.specs.Got.{Got}
 use Rattle.vd_meaning.specs.Names.{whole_converted}
-use Rattle.vd_static_entries.specs.declared.names.KnownName.{KnownName}
+use Rattle.vd_static_values.specs.declared.names.KnownName.{KnownName}
 use Rattle.vd_values.specs.declared.scalar.Scalar.{Scalar}
 
 -- the value of a qualified expression

@@ -7,14 +7,14 @@ use Rattle.vd_meaning.specs.Facets.{Meaning}
 use Rattle.vd_meaning.specs.Kinds
 use Rattle.vd_meaning.specs.Meanings.{meaning_of}
 use Rattle.vd_resolved.specs.declared.node.Resolved.{Resolved}
-use Rattle.vd_static_entries.specs.Entries.{IsGround, table_of}
-use Rattle.vd_static_entries.specs.Nodes.{AreNodes, IsNode}
-use Rattle.vd_static_entries.specs.declared.entries.Ground.{Ground}
-use Rattle.vd_static_entries.specs.declared.nodes.Bracketed.{Bracketed}
-use Rattle.vd_static_entries.specs.declared.nodes.Bracketed.TheVariants as bracketed
-use Rattle.vd_static_entries.specs.declared.nodes.Node.{Node}
-use Rattle.vd_static_entries.specs.declared.nodes.Piece.{Piece}
-use Rattle.vd_static_entries.specs.declared.nodes.Piece.TheVariants as piece
+use Rattle.vd_static_values.specs.Entries.{IsGround, table_of}
+use Rattle.vd_static_values.specs.Nodes.{AreNodes, IsNode}
+use Rattle.vd_static_values.specs.declared.entries.Ground.{Ground}
+use Rattle.vd_static_values.specs.declared.nodes.Bracketed.{Bracketed}
+use Rattle.vd_static_values.specs.declared.nodes.Bracketed.TheVariants as bracketed
+use Rattle.vd_static_values.specs.declared.nodes.Node.{Node}
+use Rattle.vd_static_values.specs.declared.nodes.Piece.{Piece}
+use Rattle.vd_static_values.specs.declared.nodes.Piece.TheVariants as piece
 use Rattle.vd_static_names.specs.Known.{IsWithin}
 
 -- The subtypes of all names in it are in the store.

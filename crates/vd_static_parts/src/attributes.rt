@@ -7,8 +7,8 @@ ghost use Rattle.vd_environments.specs.Environments.{Env};
 ghost use Rattle.vd_environments.specs.Got.{Got};
 ghost use Rattle.vd_meaning.specs.Names.{BoundAt, EventOf, LengthOf, Named, OfType, RangeOf, attribute_named as attribute_meant, attributed as attributed_name, bound_value as value_of_bound, bounds_known as known_of_bounds, length_value as value_of_length, range_value as value_of_range};
 ghost use Rattle.vd_static_parts.specs.Attributes.{bound_by, length_by, range_by};
-ghost use Rattle.vd_static_entries.specs.Entries.{IsFound, IsGround};
-ghost use Rattle.vd_static_entries.specs.Names.{IsName, type_attribute as attribute_of_type};
+ghost use Rattle.vd_static_values.specs.Entries.{IsFound, IsGround};
+ghost use Rattle.vd_static_values.specs.Names.{IsName, type_attribute as attribute_of_type};
 ghost use Rattle.vd_static_names.specs.Known.{HasSubtypes, IsWithin};
 
 use crate::bounds::{bounds_known, scalar_type};
@@ -17,10 +17,11 @@ use std::alloc::{AllocError, Global};
 use vd_composites::{Bounds, ScalarType, Value};
 use vd_declarations::TypeId;
 use vd_operators::Side;
-use vd_static_entries::{Ground, KnownName, TypeAttribute};
 use vd_static_names::subtypes::scalar_of;
 use vd_static_names::values::{fresh, no_name, range};
-use vd_static_values::{array_bound, array_length, range_of_array, scalar_bound};
+use vd_static_values::{
+    Ground, KnownName, TypeAttribute, array_bound, array_length, range_of_array, scalar_bound,
+};
 use vd_value_rules::StaticSort;
 
 // ---- by the bounds of an array

@@ -4,16 +4,16 @@ ghost use Rattle.std.specs.Prelude.{◌≡◌};
 ghost use Rattle.vd_environments.specs.Environments.{Env};
 ghost use Rattle.vd_value_rules.specs.Indicated.{static_of};
 ghost use Rattle.vd_meaning.specs.Names.{Named, bounds_known as known_of_bounds, scalar_type as type_of_mark};
-ghost use Rattle.vd_static_entries.specs.Entries.{IsFound, IsGround};
-ghost use Rattle.vd_static_entries.specs.Names.{IsName};
+ghost use Rattle.vd_static_values.specs.Entries.{IsFound, IsGround};
+ghost use Rattle.vd_static_values.specs.Names.{IsName};
 ghost use Rattle.vd_static_names.specs.Known.{HasSubtypes, IsWithin};
 
 use vd_composites::ScalarType;
 use vd_declarations::TypeId;
 use vd_forest::Store;
-use vd_static_entries::{Ground, KnownName};
 use vd_static_names::grounds::subtype_of;
 use vd_static_names::subtypes::own_bounds;
+use vd_static_values::{Ground, KnownName};
 use vd_value_rules::subtypes::scalar;
 use vd_value_rules::{IndicatedForm, StaticSort};
 

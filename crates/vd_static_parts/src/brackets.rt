@@ -9,14 +9,14 @@ ghost use Rattle.vd_value_rules.specs.Indicated.{static_of};
 ghost use Rattle.vd_value_rules.specs.declared.forms.IndicatedForm.{IndicatedForm};
 ghost use Rattle.vd_meaning.specs.Brackets.{bracketed_known as known_of_brackets, bracketed_value as value_of_brackets};
 ghost use Rattle.vd_meaning.specs.Facets.{Meaning};
-ghost use Rattle.vd_static_entries.specs.Entries.{IsFound};
-ghost use Rattle.vd_static_entries.specs.Nodes.{AreNodes, IsNode};
+ghost use Rattle.vd_static_values.specs.Entries.{IsFound};
+ghost use Rattle.vd_static_values.specs.Nodes.{AreNodes, IsNode};
 
 use crate::parts::known_of;
 use std::alloc::{AllocError, Global};
 use vd_composites::Value;
-use vd_static_entries::{Association, Node};
 use vd_static_names::copies::value_again;
+use vd_static_values::{Association, Node};
 use vd_value_rules::StaticSort;
 
 /// How static a list in brackets with one part is.

@@ -6,7 +6,7 @@ ghost use Rattle.vd_forest.specs.Store.{at};
 ghost use Rattle.vd_value_rules.specs.Indicated.{indicated_in};
 ghost use Rattle.vd_meaning.specs.Names.{calls_known};
 ghost use Rattle.vd_meaning.specs.Operators.{function_of, operate as operate_at, operation};
-ghost use Rattle.vd_static_entries.specs.Entries.{IsFound, IsGround, entry_at, table_of};
+ghost use Rattle.vd_static_values.specs.Entries.{IsFound, IsGround, entry_at, table_of};
 ghost use Rattle.vd_static_names.specs.Known.{HasSubtypes};
 ghost use Rattle.vd_static_values.specs.Operands.{AreOperands};
 ghost use Rattle.vd_value_rules.specs.Knowledge.{at_mark};
@@ -16,9 +16,8 @@ use vd_composites::Value;
 use vd_declarations::TypeId;
 use vd_operations::operation_of;
 use vd_operations::tables::{is_predefined, mark_of};
-use vd_static_entries::Ground;
 use vd_static_names::grounds::subtype_of;
-use vd_static_values::operate;
+use vd_static_values::{Ground, operate};
 
 /// The predefined operator that a function stands for, if it stands for one.
 fn operator_of(ground: &Ground<'_>, number: u32) -> Option<u32>

@@ -8,19 +8,18 @@ ghost use Rattle.vd_value_rules.specs.Indicated.{static_of};
 ghost use Rattle.vd_meaning.specs.Names.{Named, conversion_known as known_of_conversion, conversion_of, converting, fresh as fresh_named, qualified as qualified_name};
 ghost use Rattle.vd_meaning.specs.Tables.{is_vector as is_vector_type};
 ghost use Rattle.vd_static_parts.specs.Conversions.{known_through, qualified_by};
-ghost use Rattle.vd_static_entries.specs.Entries.{IsFound, IsGround};
-ghost use Rattle.vd_static_entries.specs.Names.{IsName};
+ghost use Rattle.vd_static_values.specs.Entries.{IsFound, IsGround};
+ghost use Rattle.vd_static_values.specs.Names.{IsName};
 ghost use Rattle.vd_static_names.specs.Known.{HasSubtypes, IsWithin};
 ghost use Rattle.vd_values.specs.declared.scalar.Scalar.{Scalar};
 
 use std::alloc::{AllocError, Global};
 use vd_composites::Value;
-use vd_given::numbers::{STD_LOGIC_VECTOR, STD_ULOGIC_VECTOR};
-use vd_static_entries::{Ground, KnownName};
+use vd_predefined::numbers::{STD_LOGIC_VECTOR, STD_ULOGIC_VECTOR};
 use vd_static_names::copies::value_again;
 use vd_static_names::grounds::{bounds_of, subtype_of};
 use vd_static_names::values::fresh;
-use vd_static_values::{convert, fit_whole};
+use vd_static_values::{Ground, KnownName, convert, fit_whole};
 use vd_value_rules::StaticSort;
 
 /// How static a conversion to a mark is, by what it converts and all bounds of the mark.

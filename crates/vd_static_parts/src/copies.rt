@@ -6,15 +6,15 @@ ghost use Rattle.vd_environments.specs.Environments.{Env};
 ghost use Rattle.vd_forest.specs.Forest.{Forest};
 ghost use Rattle.vd_value_rules.specs.declared.forms.IndicatedForm.{IndicatedForm};
 ghost use Rattle.vd_meaning.specs.Facets.{Meaning, nth};
-ghost use Rattle.vd_static_entries.specs.Nodes.{AreNodes, IsNode};
-ghost use Rattle.vd_static_entries.specs.Senses.{IsSense};
+ghost use Rattle.vd_static_values.specs.Nodes.{AreNodes, IsNode};
+ghost use Rattle.vd_static_values.specs.Senses.{IsSense};
 ghost use Rattle.vd_static_parts.specs.Made.{IsSound};
 
 use crate::nodes::absent;
 use std::alloc::{AllocError, Global};
 use vd_declarations::DeclId;
-use vd_static_entries::{Arguments, Bracketed, Node, Piece, Sense};
 use vd_static_names::copies::{again, value_again};
+use vd_static_values::{Arguments, Bracketed, Node, Piece, Sense};
 
 /// The same list once more.
 fn choices_again(

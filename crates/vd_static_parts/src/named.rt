@@ -5,7 +5,7 @@ ghost use Rattle.vd_meaning.specs.Names.{attribute_in, attribute_named as attrib
 ghost use Rattle.vd_static_parts.specs.Attributes.{read_attribute};
 
 use vd_operators::Side;
-use vd_static_entries::TypeAttribute;
+use vd_static_values::TypeAttribute;
 
 /// What an attribute is of a name.
 #[derive(Clone, Copy, PartialEq, Eq, Debug)]

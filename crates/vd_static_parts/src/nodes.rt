@@ -11,9 +11,9 @@ ghost use Rattle.vd_value_rules.specs.declared.forms.IndicatedForm.{IndicatedFor
 ghost use Rattle.vd_meaning.specs.Facets.{Meaning, expression as expression_meant, no_meaning, of_node};
 ghost use Rattle.vd_meaning.specs.Meanings.{piece_of, whole_name};
 ghost use Rattle.vd_meaning.specs.Names.{Named};
-ghost use Rattle.vd_static_entries.specs.Entries.{IsFound};
-ghost use Rattle.vd_static_entries.specs.Names.{IsName};
-ghost use Rattle.vd_static_entries.specs.Nodes.{IsNode, IsPiece};
+ghost use Rattle.vd_static_values.specs.Entries.{IsFound};
+ghost use Rattle.vd_static_values.specs.Names.{IsName};
+ghost use Rattle.vd_static_values.specs.Nodes.{IsNode, IsPiece};
 ghost use Rattle.vd_static_names.specs.Known.{IsWithin};
 ghost use Rattle.vd_static_parts.specs.Made.{IsSound, IsSoundPiece};
 ghost use Rattle.vd_values.specs.declared.scalar.Scalar.{Scalar};
@@ -21,9 +21,9 @@ ghost use Rattle.vd_values.specs.declared.scalar.Scalar.{Scalar};
 use std::alloc::{AllocError, Global};
 use vd_composites::Value;
 use vd_resolved::Resolved;
-use vd_static_entries::{Association, KnownName, Node, Piece, Ranging, Sense};
 use vd_static_names::copies::value_again;
 use vd_static_names::values::no_name;
+use vd_static_values::{Association, KnownName, Node, Piece, Ranging, Sense};
 use vd_value_rules::StaticSort;
 
 /// A node of which nothing is known but what it says itself.

@@ -6,14 +6,14 @@ ghost use Rattle.vd_forest.specs.Forest.{Forest};
 ghost use Rattle.vd_value_rules.specs.Indicated.{static_of};
 ghost use Rattle.vd_value_rules.specs.declared.forms.IndicatedForm.{IndicatedForm};
 ghost use Rattle.vd_meaning.specs.Facets.{Meaning, arguments, known_of as known_in, nth};
-ghost use Rattle.vd_static_entries.specs.Names.{IsRanging};
-ghost use Rattle.vd_static_entries.specs.Nodes.{AreNodes};
+ghost use Rattle.vd_static_values.specs.Names.{IsRanging};
+ghost use Rattle.vd_static_values.specs.Nodes.{AreNodes};
 ghost use Rattle.vd_static_values.specs.Operands.{AreOperands};
 
 use std::alloc::{AllocError, Global};
 use vd_composites::Value;
-use vd_static_entries::{Node, Ranging};
 use vd_static_names::copies::value_again;
+use vd_static_values::{Node, Ranging};
 use vd_value_rules::StaticSort;
 
 // ---- all parts

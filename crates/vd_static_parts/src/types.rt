@@ -6,17 +6,16 @@ ghost use Rattle.vd_environments.specs.Environments.{Env, Signals, Static, both}
 ghost use Rattle.vd_environments.specs.Got.{Got};
 ghost use Rattle.vd_value_rules.specs.Indicated.{static_of};
 ghost use Rattle.vd_meaning.specs.Names.{Attributed, Named, TypeAttribute as AttributeOfType, fresh as fresh_named, type_attribute_value as value_of_attribute};
-ghost use Rattle.vd_static_entries.specs.Entries.{IsFound};
-ghost use Rattle.vd_static_entries.specs.Names.{IsName, type_attribute as attribute_of_type};
+ghost use Rattle.vd_static_values.specs.Entries.{IsFound};
+ghost use Rattle.vd_static_values.specs.Names.{IsName, type_attribute as attribute_of_type};
 ghost use Rattle.vd_static_names.specs.Known.{IsWithin};
 ghost use Rattle.vd_values.specs.declared.scalar.Scalar.{Scalar};
 
 use std::alloc::{AllocError, Global};
 use vd_composites::Value;
-use vd_static_entries::{Ground, KnownName, TypeAttribute};
 use vd_static_names::subtypes::{scalar_number, scalar_of};
 use vd_static_names::values::{fresh, no_name};
-use vd_static_values::type_attribute;
+use vd_static_values::{Ground, KnownName, TypeAttribute, type_attribute};
 use vd_value_rules::StaticSort;
 
 /// The value of an attribute of a locally static name.

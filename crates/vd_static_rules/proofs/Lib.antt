@@ -1,3 +1,4 @@
 pub mod RuleLemmas
 mod StaticLemmas
 mod ElementLemmas
+mod TypeLemmas

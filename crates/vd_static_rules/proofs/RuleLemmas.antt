@@ -3,11 +3,11 @@ use Rattle.std.proofs.Common.{◌≡◌, ◌∷◌, ◌++◌, ◌∙◌, Bool, L
 use Rattle.std.specs.List.{filter}
 use Rattle.vd_bytes.specs.declared.answers.Refused.{Refused}
 use Rattle.vd_bytes.specs.declared.places.Place.{Place}
-use Rattle.vd_least.proofs.LeastLaws.{least_of_append}
-use Rattle.vd_least.proofs.OrderLaws.{lesser_brackets}
-use Rattle.vd_least.specs.Least.{least_of, lesser}
-use Rattle.vd_rule_groups.proofs.FirstLemmas.{all_others}
-use Rattle.vd_rule_groups.specs.Groups.{firsts_of}
+use Rattle.vd_walks.proofs.LeastLaws.{least_of_append}
+use Rattle.vd_walks.proofs.OrderLaws.{lesser_brackets}
+use Rattle.vd_walks.specs.Least.{least_of, lesser}
+use Rattle.vd_value_rules.proofs.FirstLemmas.{all_others}
+use Rattle.vd_value_rules.specs.Groups.{firsts_of}
 use Rattle.vd_value_rules.specs.Judging.{refused_if}
 use Rattle.vd_value_rules.specs.Rules.{is_of_names}
 

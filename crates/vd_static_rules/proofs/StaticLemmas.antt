@@ -4,19 +4,19 @@ use Rattle.std.specs.Prelude.{Err, IfOk, Ok, Result}
 use Rattle.vd_bytes.specs.declared.answers.Refused.{Refused}
 use Rattle.vd_bytes.specs.declared.places.Place.{Place}
 use Rattle.vd_environments.specs.Environments.{Env, is_static}
-use Rattle.vd_facets.proofs.PassingLemmas.{nth_skipped}
+use Rattle.vd_operations.proofs.PassingLemmas.{nth_skipped}
 use Rattle.vd_forest.specs.Forest.{Forest, more, nothing, parts_of, skipped}
 use Rattle.vd_forms.specs.declared.form.Form.{Form}
 use Rattle.vd_forms.specs.declared.form.Form.TheVariants as form
 use Rattle.vd_value_rules.specs.Indicated.{static_of}
 use Rattle.vd_value_rules.specs.declared.statics.StaticSort.{StaticSort}
-use Rattle.vd_least.proofs.LeastLaws.{least_of_append}
-use Rattle.vd_least.specs.Least.{least_of, lesser}
+use Rattle.vd_walks.proofs.LeastLaws.{least_of_append}
+use Rattle.vd_walks.specs.Least.{least_of, lesser}
 use Rattle.vd_meaning.specs.Facets.{Meaning, nth}
 use Rattle.vd_meaning.specs.Meanings.{meanings}
 use Rattle.vd_resolved.specs.declared.node.Resolved.{Resolved}
-use Rattle.vd_rule_groups.specs.Groups.{firsts_of}
-use Rattle.vd_rule_groups.specs.declared.firsts.Firsts.{Firsts}
+use Rattle.vd_value_rules.specs.Groups.{firsts_of}
+use Rattle.vd_value_rules.specs.declared.firsts.Firsts.{Firsts}
 use Rattle.vd_static_rules.proofs.RuleLemmas.{AreRules, one_more_refused, rules_alone, rules_both, rules_if}
 use Rattle.vd_static_rules.specs.Elements.{formal_or}
 use Rattle.vd_value_rules.specs.Designs.{Design}

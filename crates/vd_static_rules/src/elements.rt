@@ -12,9 +12,9 @@ ghost use Rattle.vd_value_rules.specs.StaticNames.{place_of_actual as place_behi
 
 use vd_bytes::Place;
 use vd_declarations::DeclId;
-use vd_facets::formal_of;
 use vd_forest::{Cursor, Opened};
 use vd_forms::Form;
+use vd_operations::formal_of;
 use vd_resolved::Resolved;
 
 /// The place of the part with a number.

@@ -7,13 +7,13 @@ ghost use Rattle.vd_forms.specs.declared.form.Form.TheVariants.{PackageInstantia
 ghost use Rattle.vd_value_rules.specs.Indicated.{static_of};
 ghost use Rattle.vd_known_designs.specs.Designs.{IsReady, Knows};
 ghost use Rattle.vd_known_indications.specs.Places.{Finds};
-ghost use Rattle.vd_least.specs.Least.{least_of};
+ghost use Rattle.vd_walks.specs.Least.{least_of};
 ghost use Rattle.vd_meaning.specs.Facets.{nth};
 ghost use Rattle.vd_meaning.specs.Meanings.{meanings};
 ghost use Rattle.vd_meaning.specs.Tables.{table};
 ghost use Rattle.vd_trees.specs.declared.revision.Revision.{Revision};
 ghost use Rattle.vd_port_modes.specs.Source.{design_in};
-ghost use Rattle.vd_rule_groups.specs.Groups.{static_expressions};
+ghost use Rattle.vd_value_rules.specs.Groups.{static_expressions};
 ghost use Rattle.vd_value_rules.specs.Designs.{Design};
 ghost use Rattle.vd_value_rules.specs.Knowledge.{Known};
 ghost use Rattle.vd_value_rules.specs.Standings.{generics_of as generics_in};
@@ -25,17 +25,15 @@ use crate::elements::{
 use std::alloc::{AllocError, Global};
 use vd_bytes::Refused;
 use vd_declarations::{Class, DeclId, Declaration};
-use vd_facets::{declaration_of, is_present};
 use vd_forest::{Cursor, Opened};
 use vd_forms::Form;
 use vd_known_designs::KnownDesign;
 use vd_known_indications::{Surroundings, node};
-use vd_least::lesser;
-use vd_operations::class_of;
+use vd_operations::{class_of, declaration_of, is_present};
 use vd_port_modes::Interfaces;
 use vd_resolved::Resolved;
-use vd_rule_groups::{Firsts, refused_if};
-use vd_value_rules::StaticSort;
+use vd_value_rules::{Firsts, StaticSort, refused_if};
+use vd_walks::lesser;
 
 /// Whether something is known in elaboration.
 fn is_static(known: StaticSort) -> bool

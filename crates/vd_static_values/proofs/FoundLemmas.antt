@@ -4,7 +4,7 @@ use Rattle.std.specs.Prelude.{if◌then◌else◌, map}
 use Rattle.vd_composites.specs.Stops.{◌>>=◌}
 use Rattle.vd_environments.specs.Got.{Got, all_got}
 use Rattle.vd_value_rules.specs.Found.{found}
-use Rattle.vd_static_entries.specs.Entries.{IsFound}
+use Rattle.vd_static_values.specs.Entries.{IsFound}
 
 pub found_of : {A : Type 0} (x : Option A) (g : Got A) → IsFound x g → found g ≡ x
 found_of None (Ok y) is = absurd cc

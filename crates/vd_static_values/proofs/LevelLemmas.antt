@@ -16,7 +16,7 @@ use Rattle.vd_value_rules.specs.Indicated.{element_indicated, index_of}
 use Rattle.vd_value_rules.specs.Found.{found}
 use Rattle.vd_meaning.specs.Names.{all_converted, converted, element_of_subtype, whole_converted, with_elements}
 use Rattle.vd_value_rules.specs.Lengths.{or_none}
-use Rattle.vd_static_entries.specs.Entries.{IsFound}
+use Rattle.vd_static_values.specs.Entries.{IsFound}
 use Rattle.vd_static_values.proofs.ElementLemmas.{length_listed, split}
 use Rattle.vd_static_values.proofs.FoundLemmas.{all_in_steps, is_found, then_again, then_found}
 use Rattle.vd_static_values.specs.Levels.{AreSized, all_whole, closed, elements_of, holding, inside_converted, lists_in, regrouped, size_of_array}

@@ -13,7 +13,7 @@ use Rattle.vd_operators.specs.declared.op.BinaryOp.TheVariants as two
 use Rattle.vd_operators.specs.declared.op.Op.TheVariants.{Binary}
 use Rattle.vd_plain_values.specs.Operands.{AreArguments, operate_on, result_subtype}
 use Rattle.vd_plain_values.proofs.OperandLemmas.{operate_at}
-use Rattle.vd_static_entries.specs.Entries.{IsFound}
+use Rattle.vd_static_values.specs.Entries.{IsFound}
 use Rattle.vd_static_values.proofs.FoundLemmas.{found_of, if_found, is_found, then_found}
 use Rattle.vd_static_values.specs.Operands.{AreOperands, stopping}
 use Rattle.vd_value_rules.specs.Knowledge.{at_mark}

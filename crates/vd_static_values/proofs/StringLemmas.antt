@@ -11,7 +11,7 @@ use Rattle.vd_plain_values.proofs.StringLemmas.{positional_same}
 use Rattle.vd_plain_values.specs.Plain.{array_in}
 use Rattle.vd_plain_values.specs.Strings.{array_by, places_in}
 use Rattle.vd_plain_values.specs.declared.environment.ArrayHead.{ArrayHead}
-use Rattle.vd_static_entries.specs.Entries.{IsFound}
+use Rattle.vd_static_values.specs.Entries.{IsFound}
 use Rattle.vd_values.specs.declared.scalar.Scalar.{Scalar}
 
 pub string_is : (s : Subtype) (make : Make) (text ns : List ℕ) (array : Option ArrayHead) (r : OrStop (Value Scalar)) (x : Option (Value Scalar))

@@ -3,7 +3,7 @@ use Rattle.std.specs.Prelude.{List, Option, [], map, ◌∷◌}
 use Rattle.vd_composites.specs.Composites.{Value}
 use Rattle.vd_composites.specs.Stops.{OrStop}
 use Rattle.vd_environments.specs.Environments.{Argument, unknown}
-use Rattle.vd_static_entries.specs.Entries.{IsFound}
+use Rattle.vd_static_values.specs.Entries.{IsFound}
 use Rattle.vd_values.specs.declared.scalar.Scalar.{Scalar}
 use Rattle.vd_vectors.specs.Logics.{or_misshapen}
 

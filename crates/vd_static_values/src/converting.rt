@@ -4,7 +4,7 @@
 ghost use Rattle.std.specs.Prelude.{IfOk};
 ghost use Rattle.vd_value_rules.specs.Indicated.{indicated_in};
 ghost use Rattle.vd_meaning.specs.Names.{converted};
-ghost use Rattle.vd_static_entries.specs.Entries.{IsFound};
+ghost use Rattle.vd_static_values.specs.Entries.{IsFound};
 ghost use Rattle.vd_static_values.specs.Finding.{IsListFound};
 ghost use Rattle.vd_static_values.specs.Levels.{IsOpened, all_whole, inside_converted};
 

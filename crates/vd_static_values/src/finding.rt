@@ -5,7 +5,7 @@ ghost use Rattle.vd_composites.specs.Answers.{Answers};
 ghost use Rattle.vd_composites.specs.Composites.{Value as AnyValue};
 ghost use Rattle.vd_composites.specs.Stops.{OrStop};
 ghost use Rattle.vd_environments.specs.Got.{got};
-ghost use Rattle.vd_static_entries.specs.Entries.{IsFound};
+ghost use Rattle.vd_static_values.specs.Entries.{IsFound};
 ghost use Rattle.vd_values.specs.declared.scalar.Scalar.{Scalar};
 
 use std::alloc::AllocError;

@@ -5,7 +5,7 @@ ghost use Rattle.vd_composites.specs.Subtypes.{fit as made_one_of};
 ghost use Rattle.vd_environments.specs.Got.{got};
 ghost use Rattle.vd_value_rules.specs.Indicated.{indicated_in};
 ghost use Rattle.vd_meaning.specs.Names.{whole_converted};
-ghost use Rattle.vd_static_entries.specs.Entries.{IsFound};
+ghost use Rattle.vd_static_values.specs.Entries.{IsFound};
 
 use crate::finding::found;
 use std::alloc::{AllocError, Global};

@@ -3,7 +3,7 @@
 ghost use Rattle.std.specs.Prelude.{IfOk, Ok};
 ghost use Rattle.vd_value_rules.specs.Indicated.{indicated_in};
 ghost use Rattle.vd_meaning.specs.Literals.{integer as integer_value, number as number_of, physical as physical_value, string as string_value};
-ghost use Rattle.vd_static_entries.specs.Entries.{IsFound};
+ghost use Rattle.vd_static_values.specs.Entries.{IsFound};
 
 use crate::characters::{element_characters, places};
 use crate::finding::unless_stopped;

@@ -4,7 +4,7 @@ ghost use Rattle.std.specs.Prelude.{◌≡◌, IfOk, List};
 ghost use Rattle.vd_environments.specs.Environments.{Argument};
 ghost use Rattle.vd_value_rules.specs.Indicated.{indicated_in};
 ghost use Rattle.vd_operations.specs.Readings.{read_operation};
-ghost use Rattle.vd_static_entries.specs.Entries.{IsFound, operate_on as operate_of_subtype};
+ghost use Rattle.vd_static_values.specs.Entries.{IsFound, operate_on as operate_of_subtype};
 ghost use Rattle.vd_static_values.specs.Operands.{AreOperands, stopping};
 
 use crate::finding::unless_stopped;

@@ -2,7 +2,7 @@
 
 ghost use Rattle.std.specs.Prelude.{IfOk};
 ghost use Rattle.vd_meaning.specs.Names.{position_in};
-ghost use Rattle.vd_static_entries.specs.Entries.{IsFound};
+ghost use Rattle.vd_static_values.specs.Entries.{IsFound};
 
 use std::alloc::AllocError;
 use vd_composites::Value;

@@ -6,10 +6,10 @@ use Rattle.vd_bytes.specs.declared.places.Place.{Place}
 use Rattle.vd_bytes.specs.declared.answers.Refused.{Refused}
 use Rattle.vd_trees.specs.declared.revision.Revision.{Revision}
 use Rattle.vd_forest.specs.Forest.{Forest, nothing, more}
-use Rattle.vd_finding.specs.Finding.{or_else, first_found}
-use Rattle.vd_least.specs.Least.{lesser, least_of, least, refusals}
-use Rattle.vd_least.proofs.LeastLaws.{least_of_append, least_of_refusals}
-use Rattle.vd_least.proofs.OrderLaws.{lesser_brackets, lesser_right}
+use Rattle.vd_walks.specs.Finding.{or_else, first_found}
+use Rattle.vd_walks.specs.Least.{lesser, least_of, least, refusals}
+use Rattle.vd_walks.proofs.LeastLaws.{least_of_append, least_of_refusals}
+use Rattle.vd_walks.proofs.OrderLaws.{lesser_brackets, lesser_right}
 use Rattle.vd_resolved.specs.declared.node.Resolved.{Resolved}
 use Rattle.vd_structure_rules.specs.declared.around.Around.{Around}
 use Rattle.vd_structure_rules.specs.declared.loops.LabelledLoop.{LabelledLoop}

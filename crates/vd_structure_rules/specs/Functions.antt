@@ -8,8 +8,8 @@ use Rattle.vd_trees.specs.declared.revision.Revision.TheVariants.{V2019, V1993}
 use Rattle.vd_forest.specs.Forest.{Forest, nothing, more, parts_of, skipped}
 use Rattle.vd_forms.specs.declared.form.Form.{Form}
 use Rattle.vd_forms.specs.declared.form.Form.TheVariants as form
-use Rattle.vd_finding.specs.Finding.{Finder}
-use Rattle.vd_gathering.specs.Gathering.{all_found}
+use Rattle.vd_walks.specs.Finding.{Finder}
+use Rattle.vd_walks.specs.Gathering.{all_found}
 use Rattle.vd_resolved.specs.declared.node.Resolved.{Resolved}
 use Rattle.vd_structure_rules.specs.declared.around.Body.{Body}
 use Rattle.vd_structure_rules.specs.declared.functions.TheConstants.{FAILURE}

@@ -5,9 +5,9 @@ use Rattle.vd_bytes.specs.declared.answers.Refused.{Refused}
 use Rattle.vd_forest.specs.Forest.{Forest, nothing, more, place_of, skipped}
 use Rattle.vd_forms.specs.declared.form.Form.{Form}
 use Rattle.vd_forms.specs.declared.form.Form.TheVariants as form
-use Rattle.vd_finding.specs.Finding.{Finder}
-use Rattle.vd_gathering.specs.Gathering.{all_found}
-use Rattle.vd_least.specs.Least.{is_before}
+use Rattle.vd_walks.specs.Finding.{Finder}
+use Rattle.vd_walks.specs.Gathering.{all_found}
+use Rattle.vd_walks.specs.Least.{is_before}
 use Rattle.vd_resolved.specs.declared.node.Resolved.{Resolved}
 use Rattle.vd_structure_rules.specs.declared.loops.EnclosingLoop.{EnclosingLoop}
 use Rattle.vd_structure_rules.specs.declared.loops.LabelledLoop.{LabelledLoop}

@@ -4,7 +4,7 @@ use Rattle.vd_bytes.specs.declared.places.Place.{Place}
 use Rattle.vd_bytes.specs.declared.answers.Refused.{Refused}
 use Rattle.vd_trees.specs.declared.revision.Revision.{Revision}
 use Rattle.vd_forest.specs.Forest.{Forest}
-use Rattle.vd_least.specs.Least.{Judge, refusals, least}
+use Rattle.vd_walks.specs.Least.{Judge, refusals, least}
 use Rattle.vd_resolved.specs.declared.node.Resolved.{Resolved}
 use Rattle.vd_structure_rules.specs.declared.around.Around.{Around}
 use Rattle.vd_structure_rules.specs.declared.around.Body.TheVariants as body

@@ -1,14 +1,14 @@
 //! Choices `others`.
 
 ghost use Rattle.std.specs.Prelude.{◌≡◌};
-ghost use Rattle.vd_least.specs.Least.{least_of, refusals};
+ghost use Rattle.vd_walks.specs.Least.{least_of, refusals};
 ghost use Rattle.vd_structure_rules.specs.Choices.{others_choice as choice_of_others, others_at as first_is_others, others_of as others_in, refused_others as are_refused_others, early_others as all_early_others, has_choices as form_has_choices, early_in as are_early_in};
 
 use vd_bytes::{Place, Refused};
 use vd_forest::Cursor;
 use vd_forms::Form;
-use vd_least::lesser;
 use vd_resolved::Resolved;
+use vd_walks::lesser;
 
 fn others_choice(form: Form, place: Place) -> Option<Place>
     ensures { result ≡ choice_of_others form place }

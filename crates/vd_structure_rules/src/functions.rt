@@ -1,7 +1,7 @@
 //! What stands in functions, and which of them have bodies.
 
 ghost use Rattle.std.specs.Prelude.{◌≡◌, ℕ, None, IfOk, is_some, slice_index_or};
-ghost use Rattle.vd_finding.specs.Finding.{Finder};
+ghost use Rattle.vd_walks.specs.Finding.{Finder};
 ghost use Rattle.vd_structure_rules.specs.Functions.{return_of as return_at, has_return as have_return, return_finder, is_failure as is_failure_number, last_behind, is_failure_name as is_name_of_failure, names_failure as first_names_failure, or_designator as or_that_of_designator, body_of_node as body_at_node, body_finder, bodies as all_bodies, suspends_or_drives as is_left_to_processes, in_function as stands_in_function, goes_on as is_no_failure, report_goes_on as reports_in_function, without_return as never_returns, has_no_body as lacks_body, without_body as is_without_body, is_function as is_function_form, is_equality as is_equality_symbol, begins_with_equality as first_is_equality, is_2019 as is_of_2019, equality_function as is_equality_function};
 
 use crate::around::{Body, is_in_function};
@@ -10,12 +10,11 @@ use crate::tables::entry;
 use std::alloc::{AllocError, Global};
 use vd_bytes::{Place, Refused};
 use vd_declarations::DeclId;
-use vd_finding::{Finding, find_first};
 use vd_forest::{Cursor, Opened};
 use vd_forms::Form;
-use vd_gathering::find_all;
 use vd_resolved::Resolved;
 use vd_trees::Revision;
+use vd_walks::{Finding, find_all, find_first};
 
 /// The number of the literal `failure` of SEVERITY_LEVEL, which is the fourth declared behind its type.
 pub const FAILURE: u32 = 144;

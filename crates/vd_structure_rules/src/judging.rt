@@ -1,7 +1,7 @@
 //! The least refusal of a design.
 
 ghost use Rattle.std.specs.Prelude.{◌≡◌, None, IfOk, is_some, slice_index_or};
-ghost use Rattle.vd_least.specs.Least.{Judge, least_of, refusals};
+ghost use Rattle.vd_walks.specs.Least.{Judge, least_of, refusals};
 ghost use Rattle.vd_structure_rules.specs.StructureRules.{Design, broken_by_statement as statement_breaks, broken_by_declaration as declaration_breaks, broken_at, structure_judge, first_refused};
 
 use crate::around::{Around, Body, Naming, around_in, statement_place};
@@ -17,9 +17,9 @@ use std::alloc::{AllocError, Global};
 use vd_bytes::{Place, Refused};
 use vd_declarations::DeclId;
 use vd_forest::{Cursor, Opened};
-use vd_least::{Judging, find_least, lesser};
 use vd_resolved::Resolved;
 use vd_trees::Revision;
+use vd_walks::{Judging, find_least, lesser};
 
 /// The rules of a revision, with the functions that have bodies and the loops with labels by their numbers.
 #[derive(Clone, Copy)]

@@ -1,7 +1,7 @@
 //! Loops, and the statements that leave them or go on to their next turn.
 
 ghost use Rattle.std.specs.Prelude.{◌≡◌, ℕ, None, IfOk, IfSome, slice_index_or};
-ghost use Rattle.vd_finding.specs.Finding.{Finder};
+ghost use Rattle.vd_walks.specs.Finding.{Finder};
 ghost use Rattle.vd_structure_rules.specs.Loops.{number_at as number_of_first, labelled_until as labelled_between, place_at as place_of_part, labelled_loop as loop_with_label, loop_of_node as loop_at_node, loop_finder, labelled_loops as all_labelled_loops, stands_round as is_around, jump_of as jump_from, jump_out_of as jump_from_innermost, jump_to as jump_inside, jump_to_label as jump_by_label, jump_by as jump_by_form, jump as jump_at, wrong_jump as is_wrong_jump};
 
 use crate::around::{closing_label_part, is_endless};
@@ -10,12 +10,10 @@ use crate::tables::entry;
 use std::alloc::{AllocError, Global};
 use vd_bytes::{Place, Refused};
 use vd_declarations::DeclId;
-use vd_finding::Finding;
 use vd_forest::{Cursor, Opened};
 use vd_forms::Form;
-use vd_gathering::find_all;
-use vd_least::is_before;
 use vd_resolved::Resolved;
+use vd_walks::{Finding, find_all, is_before};
 
 /// A loop around a statement: where it is refused, and whether it has no range.
 #[derive(Clone, Copy)]

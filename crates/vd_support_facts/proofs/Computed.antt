@@ -1,7 +1,7 @@
 -- The facts, computed.
 use Rattle.std.proofs.Common.{refl}
 use Rattle.std.specs.Fmt.{digits}
-use Rattle.vd_given.specs.Table.{standard_types, standard_operators, logic_types, logic_operators}
+use Rattle.vd_predefined.specs.Table.{standard_types, standard_operators, logic_types, logic_operators}
 use Rattle.vd_support_facts.specs.Matching.{MatchingFacts, BitMatchingFacts}
 use Rattle.vd_support_facts.specs.Reductions.{ReductionFacts, BitReductionFacts}
 use Rattle.vd_support_facts.specs.Mixed.{MixedFacts, BitMixedFacts}

@@ -2,7 +2,7 @@
 use Rattle.std.specs.Prelude.{◌≡◌, Bool, true, false, [], ◌∷◌, Ok}
 use Rattle.std.proofs.Common.{refl}
 use Rattle.std.specs.Fmt.{digits}
-use Rattle.vd_given.specs.Table.{standard_types, standard_operators, logic_types, logic_operators}
+use Rattle.vd_predefined.specs.Table.{standard_types, standard_operators, logic_types, logic_operators}
 use Rattle.vd_values.specs.declared.logic.Logic.{Logic}
 use Rattle.vd_values.specs.declared.logic.Logic.TheVariants.{U, X, Zero, One, Z, W, L, H, Dash}
 use Rattle.vd_vectors.specs.declared.orders.Relation.TheVariants.{IsLess, IsAtMost, IsGreater, IsAtLeast}

@@ -13,7 +13,7 @@ use Rattle.vd_operators.specs.Applied.{applied}
 use Rattle.vd_operators.specs.Support.{characters}
 use Rattle.vd_forest.specs.Forest.{Forest, nothing, more}
 use Rattle.vd_resolved.specs.declared.node.Resolved.{Resolved}
-use Rattle.vd_given.specs.Given.{given_scopes}
+use Rattle.vd_predefined.specs.Given.{given_scopes}
 use Rattle.vd_environments.specs.Got.{Got, got}
 use Rattle.vd_environments.specs.Environments.{Env}
 use Rattle.vd_environments.specs.Processes.{declared}

@@ -2,8 +2,8 @@
 use Rattle.std.specs.Prelude.{List, [], ◌∷◌, Some, None, codes}
 use Rattle.vd_declarations.specs.declared.classes.Class.TheVariants as class
 use Rattle.vd_declarations.specs.declared.declarations.Declaration.{Declaration}
-use Rattle.vd_given.specs.Entries.{declared}
-use Rattle.vd_given.specs.declared.numbers.TheConstants.{BOOLEAN, BIT, INTEGER, STRING, BIT_VECTOR, STD_ULOGIC, STD_ULOGIC_VECTOR}
+use Rattle.vd_predefined.specs.Entries.{declared}
+use Rattle.vd_predefined.specs.declared.numbers.TheConstants.{BOOLEAN, BIT, INTEGER, STRING, BIT_VECTOR, STD_ULOGIC, STD_ULOGIC_VECTOR}
 
 abbrev pub declarations : List Declaration
 declarations =

@@ -3,7 +3,7 @@ use Rattle.std.specs.Prelude.{[], ◌∷◌, Some, None, codes}
 use Rattle.vd_forest.specs.Forest.{Forest}
 use Rattle.vd_forms.specs.declared.form.Form.TheVariants as form
 use Rattle.vd_resolved.specs.declared.node.Resolved.{Resolved}
-use Rattle.vd_given.specs.declared.numbers.TheConstants.{INTEGER, STD_ULOGIC, STD_ULOGIC_VECTOR}
+use Rattle.vd_predefined.specs.declared.numbers.TheConstants.{INTEGER, STD_ULOGIC, STD_ULOGIC_VECTOR}
 use Rattle.vd_meaning_facts.specs.Trees.{node, plain, absent, of, leaf}
 
 abbrev pub vd_and_vs : Forest Resolved

@@ -6,7 +6,7 @@ use Rattle.vd_trees.specs.declared.revision.Revision.{Revision}
 use Rattle.vd_forest.specs.Forest.{Forest, nothing, more, parts_of, skipped}
 use Rattle.vd_forms.specs.declared.form.Form.{Form}
 use Rattle.vd_forms.specs.declared.form.Form.TheVariants as form
-use Rattle.vd_least.specs.Least.{Judge, refusals, least}
+use Rattle.vd_walks.specs.Least.{Judge, refusals, least}
 use Rattle.vd_text_rules.specs.declared.judging.Around.{Around}
 use Rattle.vd_text_rules.specs.declared.regions.Region.{Region}
 use Rattle.vd_text_rules.specs.declared.regions.Region.TheVariants as region

@@ -1,7 +1,7 @@
 //! The least refusal of a text.
 
 ghost use Rattle.std.specs.Prelude.{◌≡◌, IfOk};
-ghost use Rattle.vd_least.specs.Least.{Judge, least_of};
+ghost use Rattle.vd_walks.specs.Least.{Judge, least_of};
 ghost use Rattle.vd_text_rules.specs.TextRules.{broken_at, text_judge, first_refused};
 
 use crate::closings::{
@@ -13,8 +13,8 @@ use std::alloc::{AllocError, Global};
 use vd_bytes::Refused;
 use vd_forest::{Cursor, Opened};
 use vd_forms::Form;
-use vd_least::{Judging, find_least, lesser};
 use vd_trees::Revision;
+use vd_walks::{Judging, find_least, lesser};
 
 /// What stands around a node.
 #[derive(Clone, Copy, PartialEq, Eq, Debug)]

@@ -1,7 +1,7 @@
 -- The facts, computed.
 use Rattle.std.proofs.Common.{refl}
 use Rattle.std.specs.Fmt.{digits}
-use Rattle.vd_given.specs.Table.{standard_types, standard_operators, logic_types, logic_operators}
+use Rattle.vd_predefined.specs.Table.{standard_types, standard_operators, logic_types, logic_operators}
 use Rattle.vd_value_rule_facts.specs.FunctionsFacts.{FunctionsFacts}
 
 pub functions : FunctionsFacts

@@ -19,8 +19,8 @@ use Rattle.vd_declarations.specs.declared.declarations.Declaration.{Declaration}
 use Rattle.vd_forest.specs.Forest.{Forest}
 use Rattle.vd_forms.specs.declared.form.Form.TheVariants as form
 use Rattle.vd_resolved.specs.declared.node.Resolved.{Resolved}
-use Rattle.vd_given.specs.Entries.{declared}
-use Rattle.vd_given.specs.declared.numbers.TheConstants.{INTEGER, BIT_VECTOR}
+use Rattle.vd_predefined.specs.Entries.{declared}
+use Rattle.vd_predefined.specs.declared.numbers.TheConstants.{INTEGER, BIT_VECTOR}
 use Rattle.vd_value_rule_facts.specs.Trees.{node, plain, absent, of, leaf}
 use Rattle.vd_trees.specs.declared.revision.Revision.TheVariants.{V2019}
 use Rattle.vd_resolved.specs.Trees.{ResolvedTree}

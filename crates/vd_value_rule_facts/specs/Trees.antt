@@ -10,7 +10,7 @@ use Rattle.vd_forms.specs.declared.form.Form.{Form}
 use Rattle.vd_forms.specs.declared.form.Form.TheVariants as form
 use Rattle.vd_resolved.specs.declared.node.Resolved.{Resolved}
 use Rattle.vd_resolved.specs.Trees.{ResolvedTree, side_by_side}
-use Rattle.vd_given.specs.Given.{given_scopes}
+use Rattle.vd_predefined.specs.Given.{given_scopes}
 
 -- a place in the only file
 abbrev pub at : ℕ → ℕ → Place

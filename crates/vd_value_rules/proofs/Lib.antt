@@ -6,3 +6,6 @@ pub mod FoundLemmas
 pub mod InsideLemmas
 pub mod PartLemmas
 pub mod Texts
+pub mod FirstLemmas
+pub mod WalkLemmas
+pub mod GroupLemmas

@@ -22,3 +22,5 @@ pub mod Standings
 pub mod StaticNames
 pub mod TreeBounds
 pub mod Types
+pub mod Groups
+pub mod GroupLaws

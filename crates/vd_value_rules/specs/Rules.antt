@@ -4,7 +4,7 @@ use Rattle.std.specs.List.{list_any}
 use Rattle.vd_bytes.specs.declared.answers.Refused.{Refused}
 use Rattle.vd_bytes.specs.declared.places.Place.{Place}
 use Rattle.vd_forest.specs.Forest.{Forest}
-use Rattle.vd_least.specs.Least.{Judge, all_broken, least_of}
+use Rattle.vd_walks.specs.Least.{Judge, all_broken, least_of}
 use Rattle.vd_resolved.specs.Trees.{ResolvedTree}
 use Rattle.vd_resolved.specs.declared.node.Resolved.{Resolved}
 use Rattle.vd_trees.specs.declared.revision.Revision.{Revision}

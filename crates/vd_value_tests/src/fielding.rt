@@ -1,14 +1,14 @@
 //! The fields of long records.
 
 ghost use Rattle.std.specs.Prelude.{◌≤◌, IfOk, length};
-ghost use Rattle.vd_indicated_fields.specs.Jumps.{AreJumps};
+ghost use Rattle.vd_static_names.specs.Jumps.{AreJumps};
 
 use anyhow::bail;
 use std::alloc::{AllocError, Global};
 use vd_bytes::Place;
 use vd_composites::{Bounds, ScalarSubtype, ScalarType};
 use vd_forest::Store;
-use vd_indicated_fields::FieldTable;
+use vd_static_names::FieldTable;
 use vd_value_rules::subtypes::scalar;
 use vd_value_rules::{IndicatedForm, StaticSort};
 

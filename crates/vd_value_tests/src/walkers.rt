@@ -5,11 +5,8 @@ ghost use Rattle.std.specs.Prelude.{◌≤◌, IfOk, length};
 use anyhow::bail;
 use std::alloc::{AllocError, Global};
 use vd_bytes::{Place, Refused};
-use vd_finding::{Finding, find_first};
 use vd_forest::{Cursor, Opened, Store};
-use vd_gathering::find_all;
-use vd_least::{Judging, find_least};
-use vd_walking::{Entry, Outcome, Walking, walk};
+use vd_walks::{Entry, Finding, Judging, Outcome, Walking, find_all, find_first, find_least, walk};
 
 /// A sum has parts; names and wrong ones have none.
 #[derive(Clone, Copy, PartialEq, Eq)]
@@ -27,7 +24,7 @@ struct AtDepth {
 
 impl Finding<Form, u8, u32> for AtDepth {
     ghost use Rattle.std.specs.Prelude.{◌==◌, ◌+◌, min, Some, None, if◌then◌else◌, ◌&&◌};
-    ghost use Rattle.vd_finding.specs.Finding.{Finder};
+    ghost use Rattle.vd_walks.specs.Finding.{Finder};
     ghost use Rattle.vd_value_tests.specs.declared.walkers.Form.TheVariants.{Sum, Name};
 
     ghost finder = { λ by. record {
@@ -70,7 +67,7 @@ struct Lines {
 
 impl Finding<Form, u8, u32> for Lines {
     ghost use Rattle.std.specs.Prelude.{nat_le, Some, None, if◌then◌else◌, ◌&&◌};
-    ghost use Rattle.vd_finding.specs.Finding.{Finder};
+    ghost use Rattle.vd_walks.specs.Finding.{Finder};
     ghost use Rattle.vd_value_tests.specs.declared.walkers.Form.TheVariants.{Sum, Name};
 
     ghost finder = { λ by. record {
@@ -113,7 +110,7 @@ struct NotDeeper {
 
 impl Judging<Form, u8> for NotDeeper {
     ghost use Rattle.std.specs.Prelude.{nat_lt, ◌+◌, min, [], ◌∷◌, length, if◌then◌else◌, ◌&&◌};
-    ghost use Rattle.vd_least.specs.Least.{Judge};
+    ghost use Rattle.vd_walks.specs.Least.{Judge};
     ghost use Rattle.vd_value_tests.specs.declared.walkers.Form.TheVariants.{Sum, Name};
 
     ghost judge = { λ by. record {
@@ -165,7 +162,7 @@ struct Depths;
 impl<'a> Walking<'a, Form, u8, u8, u32, u8> for Depths {
     ghost use Rattle.std.specs.Prelude.{◌+◌, min, Some, None, if◌then◌else◌};
     ghost use Rattle.vd_forest.specs.Forest.{leaf, more, nothing};
-    ghost use Rattle.vd_walking.specs.Walking.{Walker, Entry, Done, Inside};
+    ghost use Rattle.vd_walks.specs.Walking.{Walker, Entry, Done, Inside};
     ghost use Rattle.vd_value_tests.specs.declared.walkers.Form.TheVariants.{Sum, Name, Wrong};
 
     ghost walker = { λ _. record {

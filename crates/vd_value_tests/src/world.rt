@@ -2,7 +2,7 @@
 
 use std::alloc::{AllocError, Global};
 use vd_declarations::{DeclId, RegionId};
-use vd_given::given;
+use vd_predefined::given;
 use vd_regions::Regions;
 use vd_trees::Revision;
 

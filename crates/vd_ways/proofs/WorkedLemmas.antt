@@ -1,6 +1,6 @@
 -- Ways that are computed.
 use Rattle.std.proofs.Common.{refl}
-use Rattle.vd_given.specs.Table.{standard_types, standard_operators, logic_types, logic_operators}
+use Rattle.vd_predefined.specs.Table.{standard_types, standard_operators, logic_types, logic_operators}
 use Rattle.vd_regions.specs.InOrder.{visible_in, selected_in_order}
 use Rattle.vd_ways.specs.Worked.{WorkedWays}
 

@@ -10,7 +10,7 @@ use Rattle.vd_declarations.specs.declared.classes.Class.{Class}
 use Rattle.vd_declarations.specs.declared.classes.Class.TheVariants as class
 use Rattle.vd_forest.specs.Forest.{Forest, nothing, more, text_of}
 use Rattle.vd_forms.specs.declared.form.Form.{Form}
-use Rattle.vd_given.specs.declared.numbers.TheConstants.{BOOLEAN, INTEGER, TIME, STRING}
+use Rattle.vd_predefined.specs.declared.numbers.TheConstants.{BOOLEAN, INTEGER, TIME, STRING}
 use Rattle.vd_states.specs.declared.states.State.{State}
 use Rattle.vd_states.specs.declared.states.State.TheVariants as state
 use Rattle.vd_states.specs.declared.states.Want.{Want}
@@ -18,16 +18,16 @@ use Rattle.vd_states.specs.declared.states.Want.TheVariants as want
 use Rattle.vd_states.specs.declared.states.Prefix.{Prefix}
 use Rattle.vd_states.specs.declared.states.Prefix.TheVariants as prefix
 use Rattle.vd_states.specs.declared.ways.Way.{Way}
-use Rattle.vd_sights.specs.declared.kinds.Kind.{Kind}
-use Rattle.vd_sights.specs.declared.kinds.Kind.TheVariants as kind
-use Rattle.vd_sights.specs.declared.attributes.Attribute.{Attribute}
-use Rattle.vd_sights.specs.declared.attributes.Attribute.TheVariants as attribute
-use Rattle.vd_sights.specs.declared.roles.Role.{Role}
-use Rattle.vd_sights.specs.declared.roles.Role.TheVariants as role
-use Rattle.vd_sights.specs.Kinds.{kind_of, symbol_of, attribute_named, role_of}
-use Rattle.vd_sights.specs.Sights.{Sight, class_of, mark_of, name_of, parameters_of}
-use Rattle.vd_sights.specs.Types.{is_some_type, is_discrete, is_scalar, index_of, element_of, type_meant, position_in, letter_name, spells, sources}
-use Rattle.vd_sights.specs.Lists.{names_in, only_one, simple_name, fits_call, in_brackets, elements_named, choices_type}
+use Rattle.vd_visible.specs.declared.kinds.Kind.{Kind}
+use Rattle.vd_visible.specs.declared.kinds.Kind.TheVariants as kind
+use Rattle.vd_visible.specs.declared.attributes.Attribute.{Attribute}
+use Rattle.vd_visible.specs.declared.attributes.Attribute.TheVariants as attribute
+use Rattle.vd_visible.specs.declared.roles.Role.{Role}
+use Rattle.vd_visible.specs.declared.roles.Role.TheVariants as role
+use Rattle.vd_visible.specs.Kinds.{kind_of, symbol_of, attribute_named, role_of}
+use Rattle.vd_visible.specs.Sights.{Sight, class_of, mark_of, name_of, parameters_of}
+use Rattle.vd_visible.specs.Types.{is_some_type, is_discrete, is_scalar, index_of, element_of, type_meant, position_in, letter_name, spells, sources}
+use Rattle.vd_visible.specs.Lists.{names_in, only_one, simple_name, fits_call, in_brackets, elements_named, choices_type}
 
 -- ---- ways
 

@@ -6,17 +6,17 @@ use Rattle.vd_trees.specs.declared.revision.Revision.TheVariants.{V2019, V1993}
 use Rattle.vd_declarations.specs.declared.classes.Class.TheVariants as class
 use Rattle.vd_forest.specs.Forest.{nothing, leaf, no_place}
 use Rattle.vd_forms.specs.declared.form.Form.TheVariants as form
-use Rattle.vd_given.specs.declared.numbers.TheConstants.{BIT, BIT_VECTOR, STD_ULOGIC, STD_ULOGIC_VECTOR, STD_LOGIC_VECTOR, INTEGER, REGION_OF_1164}
-use Rattle.vd_given.specs.Entries.{declared, with_entry}
-use Rattle.vd_given.specs.Given.{given_scopes}
+use Rattle.vd_predefined.specs.declared.numbers.TheConstants.{BIT, BIT_VECTOR, STD_ULOGIC, STD_ULOGIC_VECTOR, STD_LOGIC_VECTOR, INTEGER, REGION_OF_1164}
+use Rattle.vd_predefined.specs.Entries.{declared, with_entry}
+use Rattle.vd_predefined.specs.Given.{given_scopes}
 use Rattle.vd_regions.specs.Scopes.{Scopes, declaration_at}
 use Rattle.vd_regions.specs.InOrder.{visible_in, selected_in_order}
 use Rattle.vd_states.specs.declared.states.State.TheVariants as state
 use Rattle.vd_states.specs.declared.states.Want.TheVariants as want
 use Rattle.vd_states.specs.declared.states.Prefix.TheVariants as prefix
 use Rattle.vd_states.specs.declared.ways.Way.{Way}
-use Rattle.vd_sights.specs.Sights.{Sight}
-use Rattle.vd_sights.specs.Types.{spells, sources}
+use Rattle.vd_visible.specs.Sights.{Sight}
+use Rattle.vd_visible.specs.Types.{spells, sources}
 use Rattle.vd_ways.specs.Ways.{ways}
 
 -- f has the number behind all given declarations

@@ -1,19 +1,19 @@
 //! Ways of attributes.
 
 ghost use Rattle.std.specs.Prelude.{◌≡◌, ◌∷◌, [], IfOk};
-ghost use Rattle.vd_sights.specs.Sights.{sight_from};
-ghost use Rattle.vd_sights.specs.Types.{type_meant};
+ghost use Rattle.vd_visible.specs.Sights.{sight_from};
+ghost use Rattle.vd_visible.specs.Types.{type_meant};
 ghost use Rattle.vd_ways.specs.Ways.{range_attribute_ways as ways_of_range, attribute_of_type as ways_of_value, array_attribute_ways as ways_of_array, attributed as ways_with_argument, scalar_attribute_ways as ways_of_scalar, mark_attribute_ways, value_attribute_ways, attribute_ways, prefix_index};
 
 use crate::making::{one, plain, typed, where_true};
 use crate::names::value_after;
 use std::alloc::{AllocError, Global};
 use vd_declarations::TypeId;
-use vd_given::numbers::{BOOLEAN, INTEGER, STRING, TIME};
-use vd_sights::Surroundings;
-use vd_sights::attributes::Attribute;
-use vd_sights::types::{index_of, is_scalar};
+use vd_predefined::numbers::{BOOLEAN, INTEGER, STRING, TIME};
 use vd_states::{Prefix, State, Want, Way};
+use vd_visible::Surroundings;
+use vd_visible::attributes::Attribute;
+use vd_visible::types::{index_of, is_scalar};
 
 /// An attribute that is a range of the indexes of an array.
 pub fn range_attribute_ways(

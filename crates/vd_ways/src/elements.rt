@@ -3,11 +3,11 @@
 ghost use Rattle.std.specs.Prelude.{◌≡◌, ◌+◌, ◌∷◌, [], ◌==◌, Some, None, IfOk, map, position, take, length, ◌<◌, ◌≤◌, IfSome};
 ghost use Rattle.std.specs.List.{filter_map};
 ghost use Rattle.std.specs.Option.{option_to_list, option_copied};
-ghost use Rattle.vd_sights.specs.Kinds.{kind_of as kind_at};
+ghost use Rattle.vd_visible.specs.Kinds.{kind_of as kind_at};
 ghost use Rattle.vd_states.specs.declared.states.State.TheVariants as state;
 ghost use Rattle.vd_states.specs.declared.states.Want.TheVariants as want;
-ghost use Rattle.vd_sights.specs.Lists.{only_one, names_in};
-ghost use Rattle.vd_sights.specs.Sights.{sight_from, class_of, mark_of, parameters_of};
+ghost use Rattle.vd_visible.specs.Lists.{only_one, names_in};
+ghost use Rattle.vd_visible.specs.Sights.{sight_from, class_of, mark_of, parameters_of};
 ghost use Rattle.vd_ways.specs.Ways.{number_ways as ways_of_number, unit_way, unit_ways, association_way, plain as plain_way, parameters_named, mark_at, value_ways_in, argument_ways, association_ways, formal_ways as ways_of_formal, element_ways, elements_ways, element_association_ways, positional_ways, field_ways, field_association_ways as ways_of_field_association, position_of, field_name_way, fields_named, field_name_ways};
 
 use crate::making::{naming, one, placed, plain, typed};
@@ -16,12 +16,12 @@ use std::alloc::{AllocError, Global};
 use vd_declarations::{Class, DeclId, TypeId};
 use vd_forest::{Cursor, Opened};
 use vd_forms::Form;
-use vd_given::numbers::INTEGER;
-use vd_sights::Surroundings;
-use vd_sights::kinds::{Kind, kind_of};
-use vd_sights::lists::{only_choice, simple_name};
-use vd_sights::types::{declaration_of, element_of};
+use vd_predefined::numbers::INTEGER;
 use vd_states::{State, Want, Way};
+use vd_visible::Surroundings;
+use vd_visible::kinds::{Kind, kind_of};
+use vd_visible::lists::{only_choice, simple_name};
+use vd_visible::types::{declaration_of, element_of};
 
 /// The ways of the number in front of a unit.
 pub fn number_ways(alloc: Global, kind: Kind) -> Result<Vec<Way>, AllocError>

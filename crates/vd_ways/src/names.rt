@@ -3,17 +3,17 @@
 ghost use Rattle.std.specs.Prelude.{◌≡◌, IfOk};
 ghost use Rattle.std.specs.List.{filter_map};
 ghost use Rattle.vd_states.specs.declared.states.State.TheVariants.{Done};
-ghost use Rattle.vd_sights.specs.Sights.{sight_from, mark_of, parameters_of};
+ghost use Rattle.vd_visible.specs.Sights.{sight_from, mark_of, parameters_of};
 ghost use Rattle.vd_ways.specs.Ways.{symbol_name as symbol, valued_way as way_of_value, literal_way as way_of_literal, named_way as way_of_name, function_way, declaration_way, head_ways, value_after as behind_value};
 
 use crate::making::{chosen, naming, placed};
 use crate::values::position_in;
 use std::alloc::{AllocError, Global};
 use vd_declarations::{DeclId, TypeId};
-use vd_sights::Surroundings;
-use vd_sights::kinds::Kind;
-use vd_sights::roles::{Role, role_of};
 use vd_states::{Prefix, State, Want, Way};
+use vd_visible::Surroundings;
+use vd_visible::kinds::Kind;
+use vd_visible::roles::{Role, role_of};
 
 /// The name of an operator symbol.
 pub fn symbol_name(alloc: Global, text: &[u8]) -> Result<Vec<u8>, AllocError>

@@ -1,9 +1,9 @@
 //! All ways of a node in a state, and where a list of trees may end.
 
 ghost use Rattle.std.specs.Prelude.{◌≡◌, IfOk};
-ghost use Rattle.vd_sights.specs.Sights.{sight_from};
-ghost use Rattle.vd_sights.specs.Types.{type_meant};
-ghost use Rattle.vd_sights.specs.Kinds.{kind_of as kind_at};
+ghost use Rattle.vd_visible.specs.Sights.{sight_from};
+ghost use Rattle.vd_visible.specs.Types.{type_meant};
+ghost use Rattle.vd_visible.specs.Kinds.{kind_of as kind_at};
 ghost use Rattle.vd_ways.specs.Ways.{suffix_ways, listed_ways, ways, is_mark_of, meets, ends};
 
 use crate::attributing::{attribute_ways, prefix_index, range_attribute_ways};
@@ -20,11 +20,11 @@ use std::alloc::{AllocError, Global};
 use vd_declarations::{DeclId, TypeId};
 use vd_forest::{Cursor, Opened};
 use vd_forms::Form;
-use vd_sights::Surroundings;
-use vd_sights::attributes::attribute_named;
-use vd_sights::kinds::{Kind, kind_of};
-use vd_sights::types::{is_discrete, is_type};
 use vd_states::{Prefix, State, Want, Way};
+use vd_visible::Surroundings;
+use vd_visible::attributes::attribute_named;
+use vd_visible::kinds::{Kind, kind_of};
+use vd_visible::types::{is_discrete, is_type};
 
 /// The ways of a suffix.
 fn suffix_ways(

@@ -4,10 +4,10 @@ ghost use Rattle.std.specs.Prelude.{◌≡◌, ◌∷◌, [], IfOk, map, option_
 ghost use Rattle.std.specs.List.{filter_map};
 ghost use Rattle.std.specs.Option.{option_to_list};
 ghost use Rattle.vd_states.specs.declared.states.State.TheVariants.{Leaf};
-ghost use Rattle.vd_sights.specs.Sights.{sight_from, class_of, mark_of};
-ghost use Rattle.vd_sights.specs.Kinds.{role_of as role_at};
-ghost use Rattle.vd_sights.specs.Types.{type_meant, sources};
-ghost use Rattle.vd_sights.specs.Lists.{elements_named};
+ghost use Rattle.vd_visible.specs.Sights.{sight_from, class_of, mark_of};
+ghost use Rattle.vd_visible.specs.Kinds.{role_of as role_at};
+ghost use Rattle.vd_visible.specs.Types.{type_meant, sources};
+ghost use Rattle.vd_visible.specs.Lists.{elements_named};
 ghost use Rattle.vd_ways.specs.Ways.{selection_name as name_selected, declaration_way, unit_selection_ways, field_way, field_way_of, selection_ways, call_ways, conversion_way as way_of_conversion, conversion_ways, named_argument_ways, element_way as way_of_element, slice_way as way_of_slice, indexed_ways, bracket_ways, qualified_ways, qualification_ways};
 
 use crate::elements::position_of;
@@ -18,11 +18,11 @@ use std::alloc::{AllocError, Global};
 use vd_declarations::{Class, DeclId, TypeId};
 use vd_forest::Cursor;
 use vd_forms::Form;
-use vd_sights::Surroundings;
-use vd_sights::kinds::{Kind, kind_of};
-use vd_sights::roles::{Role, role_of};
-use vd_sights::types::declaration_of;
 use vd_states::{Prefix, State, Want, Way};
+use vd_visible::Surroundings;
+use vd_visible::kinds::{Kind, kind_of};
+use vd_visible::roles::{Role, role_of};
+use vd_visible::types::declaration_of;
 
 /// The name behind a point.
 pub fn selection_name(

@@ -3,10 +3,10 @@
 ghost use Rattle.std.specs.Prelude.{◌≡◌, ◌∷◌, [], ℕ, IfOk, map};
 ghost use Rattle.std.specs.List.{filter_map};
 ghost use Rattle.std.specs.Option.{option_to_list};
-ghost use Rattle.vd_sights.specs.declared.kinds.Kind.TheVariants.{Aggregate};
-ghost use Rattle.vd_sights.specs.Kinds.{kind_of as kind_at};
-ghost use Rattle.vd_sights.specs.Sights.{sight_from, class_of, mark_of};
-ghost use Rattle.vd_sights.specs.Types.{is_some_type, position_in as place_in, letter_name as letter};
+ghost use Rattle.vd_visible.specs.declared.kinds.Kind.TheVariants.{Aggregate};
+ghost use Rattle.vd_visible.specs.Kinds.{kind_of as kind_at};
+ghost use Rattle.vd_visible.specs.Sights.{sight_from, class_of, mark_of};
+ghost use Rattle.vd_visible.specs.Types.{is_some_type, position_in as place_in, letter_name as letter};
 ghost use Rattle.vd_ways.specs.Ways.{letter_way, operator_way, value_ways, bounds_way as way_of_bounds, range_ways, discrete_range_ways, choice_ways, mark_ways as ways_of_mark, wanted_ways};
 
 use crate::making::{chosen, one, placed, plain, typed, where_true};
@@ -14,12 +14,12 @@ use std::alloc::{AllocError, Global};
 use vd_declarations::{Class, DeclId, TypeId};
 use vd_forest::Opened;
 use vd_forms::Form;
-use vd_given::numbers::{INTEGER, TIME};
-use vd_sights::Surroundings;
-use vd_sights::kinds::{Kind, kind_of, symbol_of};
-use vd_sights::roles::{Role, role_of};
-use vd_sights::types::{is_discrete, is_scalar, is_type};
+use vd_predefined::numbers::{INTEGER, TIME};
 use vd_states::{State, Want, Way};
+use vd_visible::Surroundings;
+use vd_visible::kinds::{Kind, kind_of, symbol_of};
+use vd_visible::roles::{Role, role_of};
+use vd_visible::types::{is_discrete, is_scalar, is_type};
 
 /// The position of a literal of a type.
 pub fn position_in(mark: TypeId, literal: DeclId) -> u32

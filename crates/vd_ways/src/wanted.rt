@@ -1,8 +1,8 @@
 //! Ways of nodes that are wanted as ranges and choices, and all ways of one node as it is wanted.
 
 ghost use Rattle.std.specs.Prelude.{◌≡◌, IfOk};
-ghost use Rattle.vd_sights.specs.Kinds.{kind_of as kind_at};
-ghost use Rattle.vd_sights.specs.Sights.{sight_from};
+ghost use Rattle.vd_visible.specs.Kinds.{kind_of as kind_at};
+ghost use Rattle.vd_visible.specs.Sights.{sight_from};
 ghost use Rattle.vd_ways.specs.Ways.{range_ways, discrete_range_ways, choice_ways, wanted_ways};
 
 use crate::making::{one, typed, where_true};
@@ -11,10 +11,10 @@ use std::alloc::{AllocError, Global};
 use vd_declarations::TypeId;
 use vd_forest::Opened;
 use vd_forms::Form;
-use vd_sights::Surroundings;
-use vd_sights::kinds::{Kind, kind_of};
-use vd_sights::types::{is_discrete, is_scalar};
 use vd_states::{State, Want, Way};
+use vd_visible::Surroundings;
+use vd_visible::kinds::{Kind, kind_of};
+use vd_visible::types::{is_discrete, is_scalar};
 
 /// The ways of a node that is wanted as a range of a type.
 fn range_ways(

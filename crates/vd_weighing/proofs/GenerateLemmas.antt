@@ -5,7 +5,7 @@ use Rattle.vd_declarations.specs.declared.declarations.Declaration.{Declaration}
 use Rattle.vd_forest.specs.Forest.{Forest, nothing, more, parts_of}
 use Rattle.vd_forms.specs.declared.form.Form.TheVariants as form
 use Rattle.vd_resolved.specs.declared.node.Resolved.{Resolved}
-use Rattle.vd_weights.specs.Weights.{form_is, part, nodes_of_first, conditions, in_front_of_branches, in_front_of_choices, if_generate, case_generate}
+use Rattle.vd_weighing.specs.Weights.{form_is, part, nodes_of_first, conditions, in_front_of_branches, in_front_of_choices, if_generate, case_generate}
 use Rattle.vd_weighing.specs.Limits.{at_most}
 use Rattle.vd_weighing.proofs.LimitLemmas.{at_most_plus, at_most_plus_right, IsCounted, counted_more, counted_cut}
 

@@ -6,7 +6,7 @@ use Rattle.vd_forest.specs.Forest.{Forest, nothing, more, parts_of, next_of, tre
 use Rattle.vd_forms.specs.declared.form.Form.TheVariants as form
 use Rattle.vd_forms.specs.Forms.{same_form}
 use Rattle.vd_resolved.specs.declared.node.Resolved.{Resolved}
-use Rattle.vd_weights.specs.Weights.{Known, nothing_known, sum_at, has_entry, sum_for, times_at, has_entry_at, with_generic, with_view, with_copies, for_each, declared_at, declared_by, own_weight, nodes, nodes_of_first, part, mode_count, element_count, formal_of, next_port, later_ports, elements, port_map, entity_instance, sums_at}
+use Rattle.vd_weighing.specs.Weights.{Known, nothing_known, sum_at, has_entry, sum_for, times_at, has_entry_at, with_generic, with_view, with_copies, for_each, declared_at, declared_by, own_weight, nodes, nodes_of_first, part, mode_count, element_count, formal_of, next_port, later_ports, elements, port_map, entity_instance, sums_at}
 use Rattle.vd_weighing.specs.Limits.{at_most}
 use Rattle.vd_weighing.specs.Tables.{sum_found, with_sum, with_elements, with_ports, with_instance, sums_found}
 use Rattle.vd_weighing.proofs.LimitLemmas.{at_most_small, at_most_twice, at_most_sum, at_most_times_right}

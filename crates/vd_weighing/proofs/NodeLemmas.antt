@@ -7,7 +7,7 @@ use Rattle.vd_forest.specs.Forest.{Forest, more, size}
 use Rattle.vd_forms.specs.declared.form.Form.{Form}
 use Rattle.vd_forms.specs.Forms.{is_weighed}
 use Rattle.vd_resolved.specs.declared.node.Resolved.{Resolved}
-use Rattle.vd_weights.specs.Weights.{own_weight, nodes}
+use Rattle.vd_weighing.specs.Weights.{own_weight, nodes}
 use Rattle.vd_weighing.specs.Limits.{at_most}
 use Rattle.vd_weighing.proofs.LimitLemmas.{at_most_small, IsCounted, counted_more}
 

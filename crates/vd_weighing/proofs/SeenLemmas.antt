@@ -3,7 +3,7 @@ use Rattle.std.proofs.Common.{◌≡◌, ℕ, ◌+◌, ◌==◌, Bool, true, fal
 use Rattle.std.proofs.lemmas.Bool.Decides.{nat_tests}
 use Rattle.std.specs.Map.{lookup}
 use Rattle.std.specs.Option.{unwrap_or}
-use Rattle.vd_weights.specs.Weights.{sum_for, has_entry, entries_again, all_again, for_each}
+use Rattle.vd_weighing.specs.Weights.{sum_for, has_entry, entries_again, all_again, for_each}
 use Rattle.vd_weighing.specs.Limits.{at_most}
 use Rattle.vd_weighing.specs.Tables.{with_entry, with_more, with_each, copy_for, copies, with_entries, with_sums}
 use Rattle.vd_weighing.proofs.LimitLemmas.{at_most_small, at_most_sum}

@@ -5,7 +5,7 @@ use Rattle.std.proofs.lemmas.Bool.{cases_lt}
 use Rattle.std.proofs.lemmas.Bool.Decides.{nat_tests}
 use Rattle.std.specs.Map.{lookup}
 use Rattle.std.specs.Option.{unwrap_or}
-use Rattle.vd_weights.specs.Weights.{has_entry, has_entry_at, times_for, times_at}
+use Rattle.vd_weighing.specs.Weights.{has_entry, has_entry_at, times_for, times_at}
 use Rattle.vd_weighing.specs.declared.table.Copied.{Copied}
 use Rattle.vd_weighing.specs.Copies.{copied}
 use Rattle.vd_weighing.specs.Tables.{found, sum_found, sums_found, with_entry, with_more, copy_for, copies, with_entries, with_sums}

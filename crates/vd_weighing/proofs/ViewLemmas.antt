@@ -4,7 +4,7 @@ use Rattle.vd_bytes.specs.declared.places.Place.{Place}
 use Rattle.vd_declarations.specs.declared.declarations.Declaration.{Declaration}
 use Rattle.vd_forest.specs.Forest.{Forest, more, parts_of, next_of, tree_count}
 use Rattle.vd_resolved.specs.declared.node.Resolved.{Resolved}
-use Rattle.vd_weights.specs.Weights.{Known, own_weight, nodes, times_at, mode_count, element_count, formal_of, next_port, later_ports, elements}
+use Rattle.vd_weighing.specs.Weights.{Known, own_weight, nodes, times_at, mode_count, element_count, formal_of, next_port, later_ports, elements}
 use Rattle.vd_weighing.specs.Limits.{at_most}
 use Rattle.vd_weighing.proofs.LimitLemmas.{at_most_plus_right, at_most_times, IsCounted, counted_more}
 

@@ -7,8 +7,8 @@ use Rattle.vd_forms.specs.declared.form.Form.{Form}
 use Rattle.vd_forms.specs.declared.form.Form.TheVariants as form
 use Rattle.vd_forms.specs.Forms.{same_form}
 use Rattle.vd_resolved.specs.declared.node.Resolved.{Resolved}
-use Rattle.vd_walking.specs.Walking.{Walked, Done, Inside, no_trees, through, walked}
-use Rattle.vd_weights.specs.Weights.{Known, Weighed, aside, nothing_known, has_generics, has_entry_at, declares, declared_at, numbers_of, name_in, part, own_weight, more_by, sum_at, times_at, element_count, if_generate, case_generate, entity_instance, by_form, by_generics, weighed_node, weighed, sums_at, weight_of}
+use Rattle.vd_walks.specs.Walking.{Walked, Done, Inside, no_trees, through, walked}
+use Rattle.vd_weighing.specs.Weights.{Known, Weighed, aside, nothing_known, has_generics, has_entry_at, declares, declared_at, numbers_of, name_in, part, own_weight, more_by, sum_at, times_at, element_count, if_generate, case_generate, entity_instance, by_form, by_generics, weighed_node, weighed, sums_at, weight_of}
 use Rattle.vd_weighing.specs.Limits.{at_most}
 use Rattle.vd_weighing.specs.Tables.{sum_found, sums_found, with_sum}
 use Rattle.vd_weighing.specs.Weighing.{counts_aside, with_own, weight_by, known_by, entered, left, weigher}

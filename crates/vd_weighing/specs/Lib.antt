@@ -1,3 +1,4 @@
+pub mod Weights
 pub mod Copies
 pub mod Limits
 pub mod Tables

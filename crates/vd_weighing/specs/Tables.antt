@@ -3,7 +3,7 @@ use Rattle.std.specs.Prelude.{ℕ, ◌+◌, List, [], ◌∷◌, Option, Some, N
 use Rattle.std.specs.Map.{lookup}
 use Rattle.std.specs.Option.{unwrap_or}
 use Rattle.indexmap.specs.IndexMap.{insert_entry}
-use Rattle.vd_weights.specs.Weights.{Known}
+use Rattle.vd_weighing.specs.Weights.{Known}
 use Rattle.vd_weighing.specs.Limits.{at_most}
 
 -- ---- one table

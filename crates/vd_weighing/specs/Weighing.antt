@@ -7,8 +7,8 @@ use Rattle.vd_forms.specs.declared.form.Form.{Form}
 use Rattle.vd_forms.specs.declared.form.Form.TheVariants as form
 use Rattle.vd_forms.specs.Forms.{same_form}
 use Rattle.vd_resolved.specs.declared.node.Resolved.{Resolved}
-use Rattle.vd_walking.specs.Walking.{Walked, Walker, Entry, Done, Inside, no_trees}
-use Rattle.vd_weights.specs.Weights.{Known, declared_at, declares, name_in, has_generics, has_entry_at, times_at, part, own_weight, numbers_of, declared_by, element_count, entity_instance, if_generate, case_generate}
+use Rattle.vd_walks.specs.Walking.{Walked, Walker, Entry, Done, Inside, no_trees}
+use Rattle.vd_weighing.specs.Weights.{Known, declared_at, declares, name_in, has_generics, has_entry_at, times_at, part, own_weight, numbers_of, declared_by, element_count, entity_instance, if_generate, case_generate}
 use Rattle.vd_weighing.specs.Limits.{at_most}
 use Rattle.vd_weighing.specs.Tables.{sum_found, with_sum, with_elements, with_ports, with_instance}
 use Rattle.vd_weighing.specs.declared.weigher.Kept.{Kept}

@@ -3,7 +3,7 @@
 ghost use Rattle.std.specs.Prelude.{◌≡◌, IfOk, List};
 ghost use Rattle.vd_declarations.specs.declared.declarations.Declaration.{Declaration};
 ghost use Rattle.vd_forms.specs.Forms.{same_form};
-ghost use Rattle.vd_weights.specs.Weights.{form_is, conditions, in_front_of_branches as before_branches, in_front_of_choices as before_choices, if_generate as in_front_of_if, case_generate as in_front_of_case};
+ghost use Rattle.vd_weighing.specs.Weights.{form_is, conditions, in_front_of_branches as before_branches, in_front_of_choices as before_choices, if_generate as in_front_of_if, case_generate as in_front_of_case};
 ghost use Rattle.vd_weighing.specs.Limits.{at_most};
 
 use crate::nodes::nodes_of_first;

@@ -2,7 +2,7 @@
 
 ghost use Rattle.std.specs.Prelude.{◌≡◌};
 ghost use Rattle.vd_forms.specs.Forms.{same_form};
-ghost use Rattle.vd_weights.specs.Weights.{declared_at as declaration_at, form_is, declares as declares_at, name_in as name_within, has_generics as with_generics, declared_by as members_of};
+ghost use Rattle.vd_weighing.specs.Weights.{declared_at as declaration_at, form_is, declares as declares_at, name_in as name_within, has_generics as with_generics, declared_by as members_of};
 
 use vd_declarations::{DeclId, Declaration};
 use vd_forest::{Cursor, Opened};

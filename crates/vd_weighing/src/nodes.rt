@@ -2,7 +2,7 @@
 
 ghost use Rattle.std.specs.Prelude.{◌≡◌, IfOk};
 ghost use Rattle.vd_forest.specs.Forest.{tree_count as trees_of};
-ghost use Rattle.vd_weights.specs.Weights.{own_weight as weight_of_form, nodes as nodes_of, nodes_of_first as nodes_of_one};
+ghost use Rattle.vd_weighing.specs.Weights.{own_weight as weight_of_form, nodes as nodes_of, nodes_of_first as nodes_of_one};
 ghost use Rattle.vd_weighing.specs.Limits.{at_most};
 
 use crate::numbers::plus;

@@ -2,7 +2,7 @@
 
 ghost use Rattle.std.specs.Prelude.{◌≡◌, IfOk, List};
 ghost use Rattle.vd_declarations.specs.declared.declarations.Declaration.{Declaration};
-ghost use Rattle.vd_weights.specs.Weights.{formal_of, next_port as first_port, later_ports as other_ports, elements as elements_of, port_map as map_of, entity_instance as instance_of};
+ghost use Rattle.vd_weighing.specs.Weights.{formal_of, next_port as first_port, later_ports as other_ports, elements as elements_of, port_map as map_of, entity_instance as instance_of};
 ghost use Rattle.vd_weighing.specs.Limits.{at_most};
 
 use crate::names::{declared_at, members};

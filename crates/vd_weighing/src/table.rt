@@ -1,7 +1,7 @@
 //! A table from declarations to numbers.
 
 ghost use Rattle.std.specs.Prelude.{◌≡◌, [], IfOk, OnOk, map};
-ghost use Rattle.vd_weights.specs.Weights.{numbers_of};
+ghost use Rattle.vd_weighing.specs.Weights.{numbers_of};
 ghost use Rattle.vd_weighing.specs.Tables.{found, with_entry, with_more, with_each, copies, with_entries, with_sums};
 ghost use Rattle.vd_weighing.specs.Copies.{copied};
 

@@ -1,7 +1,7 @@
 //! What is known in front of a place.
 
 ghost use Rattle.std.specs.Prelude.{◌≡◌, IfOk, OnOk};
-ghost use Rattle.vd_weights.specs.Weights.{nothing_known, has_entry_at, times_at, numbers_of};
+ghost use Rattle.vd_weighing.specs.Weights.{nothing_known, has_entry_at, times_at, numbers_of};
 ghost use Rattle.vd_weighing.specs.Limits.{at_most};
 ghost use Rattle.vd_weighing.specs.Tables.{sum_found, sums_found, with_sum, with_elements, with_ports, with_instance};
 
@@ -24,7 +24,7 @@ pub(crate) struct Tables {
 
 impl Model for Tables {
     ghost use Rattle.std.specs.Prelude.{reverse};
-    ghost use Rattle.vd_weights.specs.Weights.{Known};
+    ghost use Rattle.vd_weighing.specs.Weights.{Known};
 
     ghost Value = { Known };
 

@@ -3,7 +3,7 @@
 ghost use Rattle.std.specs.Prelude.{◌≡◌, List};
 ghost use Rattle.vd_declarations.specs.declared.declarations.Declaration.{Declaration};
 ghost use Rattle.vd_forms.specs.Forms.{same_form};
-ghost use Rattle.vd_weights.specs.Weights.{mode_count as count_of_mode, element_count as count_of_elements};
+ghost use Rattle.vd_weighing.specs.Weights.{mode_count as count_of_mode, element_count as count_of_elements};
 ghost use Rattle.vd_weighing.specs.Limits.{at_most};
 
 use crate::names::declared_at;

@@ -2,7 +2,7 @@
 
 ghost use Rattle.std.specs.Prelude.{◌≡◌, IfOk, OnOk};
 ghost use Rattle.vd_forms.specs.Forms.{same_form};
-ghost use Rattle.vd_weights.specs.Weights.{weight_of};
+ghost use Rattle.vd_weighing.specs.Weights.{weight_of};
 ghost use Rattle.vd_weighing.specs.Limits.{at_most};
 ghost use Rattle.vd_weighing.specs.Weighing.{counts_aside, weight_by, known_by};
 
@@ -18,7 +18,7 @@ use vd_declarations::Declaration;
 use vd_forest::{Cursor, Opened, Store};
 use vd_forms::Form;
 use vd_resolved::Resolved;
-use vd_walking::{Entry, Outcome, Walking, walk};
+use vd_walks::{Entry, Outcome, Walking, walk};
 
 /// What is kept of a tree: what its level weighs in front of it, and whether the tree counts aside, for the instances of it.
 #[derive(Drop)]

@@ -1,7 +1,7 @@
 use Rattle.std.proofs.Common.{ap, ◌∙◌}
 use Rattle.vd_accepting.proofs.AllGroupLemmas.{groups_joined}
-use Rattle.vd_rule_groups.specs.Groups.{joined_firsts}
-use Rattle.vd_rule_groups.specs.declared.firsts.Firsts.{Firsts}
+use Rattle.vd_value_rules.specs.Groups.{joined_firsts}
+use Rattle.vd_value_rules.specs.declared.firsts.Firsts.{Firsts}
 use Rattle.vd_accepting.proofs.all_groups.first_of_groups.Goals as goal
 
 pub returns : goal.returns

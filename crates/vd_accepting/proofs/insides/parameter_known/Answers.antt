@@ -1,6 +1,6 @@
 use Rattle.std.proofs.Common.{◌∙◌, ◌≡◌, ◌∷◌, [], ap, subst, sym}
 use Rattle.std.specs.Prelude.{OnOk}
-use Rattle.vd_facets.proofs.PassingLemmas.{nth_skipped}
+use Rattle.vd_operations.proofs.PassingLemmas.{nth_skipped}
 use Rattle.vd_value_rules.specs.Indicated.{static_of}
 use Rattle.vd_known_designs.specs.Designs.{Knows}
 use Rattle.vd_meaning.specs.Facets.{nth}

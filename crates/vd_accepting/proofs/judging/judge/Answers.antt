@@ -1,10 +1,10 @@
 use Rattle.std.proofs.Common.{◌≡◌, ap, ap₂, ◌∙◌}
 use Rattle.vd_accepting.specs.Accepting.{first_of_rules}
-use Rattle.vd_finding.specs.Finding.{or_else}
-use Rattle.vd_least.specs.Least.{lesser}
+use Rattle.vd_walks.specs.Finding.{or_else}
+use Rattle.vd_walks.specs.Least.{lesser}
 use Rattle.vd_naming.specs.Naming.{names_of}
 use Rattle.vd_naming.specs.Settled.{resolved_tree}
-use Rattle.vd_rule_groups.specs.Groups.{firsts_of}
+use Rattle.vd_value_rules.specs.Groups.{firsts_of}
 use Rattle.vd_value_rules.specs.Rules.{broken_in}
 use Rattle.vd_accepting.proofs.judging.judge.Goals as goal
 

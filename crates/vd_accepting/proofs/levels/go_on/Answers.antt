@@ -1,5 +1,5 @@
 use Rattle.std.proofs.Common.{◌∙◌, ap, drop, sym}
-use Rattle.vd_standings.specs.Standing.{standings_in}
+use Rattle.vd_contexts.specs.Standing.{standings_in}
 use Rattle.vd_value_rules.specs.Standings.{further_standings}
 use Rattle.vd_accepting.proofs.levels.go_on.Goals as goal
 

@@ -1,10 +1,10 @@
 use Rattle.std.proofs.Common.{◌∙◌, [], ap, drop, refl, reverse, subst, sym}
-use Rattle.vd_following.proofs.PositionLemmas.{judged_is_broken}
-use Rattle.vd_least.specs.Least.{all_broken}
+use Rattle.vd_walks.proofs.PositionLemmas.{judged_is_broken}
+use Rattle.vd_walks.specs.Least.{all_broken}
 use Rattle.vd_meaning.specs.Tables.{table}
 use Rattle.vd_port_modes.specs.Source.{design_in}
-use Rattle.vd_rule_groups.specs.Groups.{firsts_of, judge_by}
-use Rattle.vd_standings.specs.Standing.{standings_in}
+use Rattle.vd_value_rules.specs.Groups.{firsts_of, judge_by}
+use Rattle.vd_contexts.specs.Standing.{standings_in}
 use Rattle.vd_value_rules.specs.Standings.{beginning}
 use Rattle.vd_accepting.specs.Levels.{AreLevels}
 use Rattle.vd_accepting.specs.Walking.{asked}

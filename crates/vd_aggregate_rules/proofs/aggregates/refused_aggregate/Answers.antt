@@ -1,6 +1,6 @@
 use Rattle.std.proofs.Common.{ap, sym, ◌∙◌}
 use Rattle.vd_aggregate_rules.proofs.AnswerLemmas.{found_same}
-use Rattle.vd_least.specs.Least.{least_of}
+use Rattle.vd_walks.specs.Least.{least_of}
 use Rattle.vd_value_rules.specs.Aggregates.{aggregate_broken, aggregate_of_form, unless_one}
 use Rattle.vd_aggregate_rules.proofs.aggregates.refused_aggregate.Goals as goal
 

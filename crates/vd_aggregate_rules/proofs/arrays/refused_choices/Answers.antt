@@ -1,5 +1,5 @@
 use Rattle.std.proofs.Common.{ap, ◌∙◌}
-use Rattle.vd_least.specs.Least.{least_of}
+use Rattle.vd_walks.specs.Least.{least_of}
 use Rattle.vd_value_rules.specs.Judging.{refused_if}
 use Rattle.vd_aggregate_rules.proofs.ChoiceLemmas.{refused_of_choices}
 use Rattle.vd_aggregate_rules.proofs.arrays.refused_choices.Goals as goal

@@ -3,7 +3,7 @@ use Rattle.indexmap.specs.IndexSet.{contains}
 use Rattle.vd_aggregate_rules.proofs.FieldLemmas.{given_at, given_length, refused_end, refused_more, seen_more}
 use Rattle.vd_aggregate_rules.specs.Fields.{field_given}
 use Rattle.vd_aggregate_rules.specs.declared.fields.Field.{Field}
-use Rattle.vd_least.specs.Least.{least_of}
+use Rattle.vd_walks.specs.Least.{least_of}
 use Rattle.vd_value_rules.specs.Aggregates.{is_given_at}
 use Rattle.vd_value_rules.specs.Judging.{refused_if}
 use Rattle.vd_aggregate_rules.proofs.fields.refused_fields.Goals as goal

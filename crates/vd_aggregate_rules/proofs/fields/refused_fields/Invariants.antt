@@ -1,7 +1,7 @@
 use Rattle.std.proofs.Common.{◌≡◌, [], drop, map, nat_eq, take, ℕ}
 use Rattle.indexmap.specs.IndexSet.{contains}
 use Rattle.vd_aggregate_rules.specs.Fields.{field_given}
-use Rattle.vd_least.specs.Least.{least_of, lesser}
+use Rattle.vd_walks.specs.Least.{least_of, lesser}
 use Rattle.vd_value_rules.specs.Aggregates.{fields_repeated, is_given_at}
 use Rattle.vd_aggregate_rules.proofs.fields.refused_fields.Given as goal
 

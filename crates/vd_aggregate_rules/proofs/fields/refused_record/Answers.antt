@@ -1,7 +1,7 @@
 use Rattle.std.proofs.Common.{ap, ap₂, map, ◌∙◌}
 use Rattle.vd_aggregate_rules.proofs.AnswerLemmas.{found_same}
 use Rattle.vd_aggregate_rules.specs.Fields.{field_given, fields_broken}
-use Rattle.vd_least.specs.Least.{least_of}
+use Rattle.vd_walks.specs.Least.{least_of}
 use Rattle.vd_aggregate_rules.proofs.fields.refused_record.Goals as goal
 
 pub returns-clause-refused : goal.returns-clause-refused

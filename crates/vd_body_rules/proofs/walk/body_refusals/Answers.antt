@@ -1,7 +1,7 @@
 use Rattle.std.proofs.Common.{refl}
 use Rattle.vd_body_rules.proofs.WalkLemmas.{firsts_are}
 use Rattle.vd_body_rules.proofs.walk.body_refusals.Goals as goal
-use Rattle.vd_walking.specs.Outcomes.{seen_in}
+use Rattle.vd_walks.specs.Outcomes.{seen_in}
 
 pub returns : goal.returns
 returns c =

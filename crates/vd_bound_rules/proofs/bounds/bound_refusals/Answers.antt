@@ -3,7 +3,7 @@ use Rattle.vd_bound_rules.proofs.ReadyLemmas.{still_ready}
 use Rattle.vd_bound_rules.proofs.RefusalLemmas.{bounds_found}
 use Rattle.vd_port_modes.specs.Source.{design_in}
 use Rattle.vd_bytes.specs.declared.answers.Refused.{Refused}
-use Rattle.vd_rule_groups.specs.declared.firsts.Firsts.{Firsts}
+use Rattle.vd_value_rules.specs.declared.firsts.Firsts.{Firsts}
 use Rattle.vd_bound_rules.proofs.bounds.bound_refusals.Goals as goal
 
 pub copied_operands-requires : goal.copied_operands-requires

@@ -1,5 +1,5 @@
 use Rattle.std.proofs.Common.{IfOk, None, [], if◌then◌else◌, refl, subst, sym, ◌≡◌, ◌∙◌}
-use Rattle.vd_least.specs.Least.{least_of}
+use Rattle.vd_walks.specs.Least.{least_of}
 use Rattle.vd_value_rules.specs.Bounds.{operands_of}
 use Rattle.vd_bound_rules.proofs.bounds.copied_operands.Goals as goal
 

@@ -1,7 +1,7 @@
 use Rattle.std.proofs.Common.{ap, sym, ◌∷◌, ◌∙◌}
 use Rattle.vd_bound_rules.proofs.OperandLemmas.{argument_more}
 use Rattle.vd_bound_rules.proofs.ReadyLemmas.{still_ready}
-use Rattle.vd_least.specs.Least.{least_of, lesser}
+use Rattle.vd_walks.specs.Least.{least_of, lesser}
 use Rattle.vd_value_rules.specs.Bounds.{indefinite_arguments}
 use Rattle.vd_bound_rules.proofs.operands.arguments.Goals as goal
 

@@ -1,5 +1,5 @@
 use Rattle.std.proofs.Common.{IfOk, None, [], if◌then◌else◌, refl, subst, sym, ◌≡◌, ◌∙◌}
-use Rattle.vd_least.specs.Least.{least_of}
+use Rattle.vd_walks.specs.Least.{least_of}
 use Rattle.vd_value_rules.specs.Bounds.{indefinite_arguments}
 use Rattle.vd_bound_rules.proofs.operands.in_brackets.Goals as goal
 

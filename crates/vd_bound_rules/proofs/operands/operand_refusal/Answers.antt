@@ -1,7 +1,7 @@
 use Rattle.std.proofs.Common.{IfOk, subst, sym, ◌≡◌}
 use Rattle.vd_bound_rules.proofs.SortLemmas.{operands_by_sort}
 use Rattle.vd_bound_rules.specs.Sorts.{operands_as}
-use Rattle.vd_least.specs.Least.{least_of}
+use Rattle.vd_walks.specs.Least.{least_of}
 use Rattle.vd_bound_rules.proofs.operands.operand_refusal.Goals as goal
 
 pub returns-clause-is : goal.returns-clause-is

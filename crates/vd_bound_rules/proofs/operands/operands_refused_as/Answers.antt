@@ -1,6 +1,6 @@
 use Rattle.std.proofs.Common.{IfOk, subst, sym, ◌≡◌}
 use Rattle.vd_bound_rules.specs.Sorts.{operands_as}
-use Rattle.vd_least.specs.Least.{least_of}
+use Rattle.vd_walks.specs.Least.{least_of}
 use Rattle.vd_value_rules.specs.Bounds.{indefinite}
 use Rattle.vd_bound_rules.proofs.operands.operands_refused_as.Goals as goal
 

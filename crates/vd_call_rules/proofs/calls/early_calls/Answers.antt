@@ -1,6 +1,6 @@
 use Rattle.std.proofs.Common.{◌≡◌, ◌+◌, ◌∷◌, get_or, drop, None, is_some, ap, sym, ◌∙◌, arith}
 use Rattle.std.proofs.lemmas.Grind.{common_steps}
-use Rattle.vd_least.specs.Least.{lesser, least_of, refusals}
+use Rattle.vd_walks.specs.Least.{lesser, least_of, refusals}
 use Rattle.vd_call_rules.specs.Calls.{early_calls}
 use Rattle.vd_call_rules.proofs.CallLemmas.{one_event}
 use Rattle.vd_call_rules.proofs.calls.early_calls.Goals as goal

@@ -1,5 +1,5 @@
 use Rattle.std.proofs.Common.{◌≡◌, None, is_some, get_or, drop}
-use Rattle.vd_least.specs.Least.{lesser, least_of, refusals}
+use Rattle.vd_walks.specs.Least.{lesser, least_of, refusals}
 use Rattle.vd_call_rules.specs.Calls.{early_calls, nothing_ended}
 use Rattle.vd_call_rules.proofs.calls.early_calls.Given as goal
 

@@ -2,7 +2,7 @@ use Rattle.std.proofs.Common.{ap, ◌∙◌, subst}
 use Rattle.std.proofs.lemmas.Result.{IfOk-weaker}
 use Rattle.vd_design_files.specs.Files.{refused, beyond, holds, IsAnswer}
 use Rattle.vd_design_files.specs.Laws.{IsEnd}
-use Rattle.vd_rules.specs.Phases.{first_broken}
+use Rattle.vd_accepting.specs.Phases.{first_broken}
 use Rattle.vd_trees.specs.declared.revision.Revision.TheVariants.{V2019}
 use Rattle.vd_words.specs.Words.{texts_of}
 use Rattle.vd_checking.specs.Checks.{judgement}

@@ -1,6 +1,6 @@
 use Rattle.std.proofs.Common.{ap, sym, ◌∙◌}
 use Rattle.vd_choice_rules.proofs.StatementLemmas.{found_same}
-use Rattle.vd_least.specs.Least.{least_of}
+use Rattle.vd_walks.specs.Least.{least_of}
 use Rattle.vd_value_rules.specs.Choices.{array_choices}
 use Rattle.vd_choice_rules.proofs.arrays.refused_of_arrays.Goals as goal
 

@@ -1,5 +1,5 @@
 use Rattle.std.proofs.Common.{subst, sym, ◌++◌}
-use Rattle.vd_choice_covering.specs.Texts.{AreCounted, IsCounted}
+use Rattle.vd_given_choices.specs.Texts.{AreCounted, IsCounted}
 use Rattle.vd_choice_rules.proofs.CountLemmas.{no_text_more, text_more}
 use Rattle.vd_choice_rules.specs.Texts.{items_where}
 use Rattle.vd_choices.specs.Texts.{texts_of}

@@ -1,6 +1,6 @@
 use Rattle.std.proofs.Common.{SFits, ap, get_or, pos, rules, w64, ℤ, ◌+ℤ◌, ◌∙◌}
 use Rattle.std.proofs.lemmas.Int.{to_z-of_z}
-use Rattle.vd_choice_covering.specs.Covering.{middle}
+use Rattle.vd_given_choices.specs.Covering.{middle}
 use Rattle.vd_choice_rules.proofs.CountLemmas.{number_more}
 use Rattle.vd_choice_rules.proofs.covering.counted_text.Goals as goal
 

@@ -1,5 +1,5 @@
 use Rattle.std.proofs.Common.{ap, subst, sym, take, ◌++◌, ◌∙◌}
-use Rattle.vd_choice_covering.specs.Texts.{AreCounted}
+use Rattle.vd_given_choices.specs.Texts.{AreCounted}
 use Rattle.vd_choice_rules.proofs.SeenLemmas.{those_more}
 use Rattle.vd_choice_rules.specs.Texts.{text_in}
 use Rattle.vd_choices.specs.Texts.{texts_of}

@@ -1,5 +1,5 @@
 use Rattle.std.proofs.Common.{take}
-use Rattle.vd_choice_covering.specs.Texts.{AreCounted}
+use Rattle.vd_given_choices.specs.Texts.{AreCounted}
 use Rattle.vd_choice_rules.specs.Texts.{text_in}
 use Rattle.vd_choices.specs.Texts.{texts_of}
 use Rattle.vd_given_choices.specs.Refusals.{those_known}

@@ -4,8 +4,8 @@ use Rattle.vd_choice_rules.proofs.SeenLemmas.{those_more}
 use Rattle.vd_choice_rules.specs.Texts.{HasTexts, text_in}
 use Rattle.vd_given_choices.proofs.RefusalLemmas.{repeated_more}
 use Rattle.vd_given_choices.specs.Refusals.{listed, repeated_known, repeats_known, those_known}
-use Rattle.vd_least.proofs.OrderLaws.{lesser_right}
-use Rattle.vd_least.specs.Least.{least_of, lesser}
+use Rattle.vd_walks.proofs.OrderLaws.{lesser_right}
+use Rattle.vd_walks.specs.Least.{least_of, lesser}
 use Rattle.vd_value_rules.specs.Choices.{same_text}
 use Rattle.vd_choice_rules.proofs.repeats.first_repeated_text.Goals as goal
 

@@ -1,7 +1,7 @@
 use Rattle.std.proofs.Common.{◌≡◌, [], drop, take}
 use Rattle.vd_choice_rules.specs.Texts.{HasTexts, text_in}
 use Rattle.vd_given_choices.specs.Refusals.{repeated_known, those_known}
-use Rattle.vd_least.specs.Least.{least_of, lesser}
+use Rattle.vd_walks.specs.Least.{least_of, lesser}
 use Rattle.vd_value_rules.specs.Choices.{same_text}
 use Rattle.vd_choice_rules.proofs.repeats.first_repeated_text.Given as goal
 

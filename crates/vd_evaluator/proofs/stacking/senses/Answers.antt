@@ -4,4 +4,4 @@ use Rattle.vd_evaluator.proofs.stacking.senses.Goals as goal
 
 pub returns : goal.returns
 returns c =
-    each_ok c.bottom_up.result (λ made. are_trees (table c.args.revision c.args.declarations.now) c.args.environment.now c.args.from.now made.items) c.bottom_up.ensures.comes_to
+    each_ok c.from_leaves.result (λ made. are_trees (table c.args.revision c.args.declarations.now) c.args.environment.now c.args.from.now made.items) c.from_leaves.ensures.comes_to

@@ -1,4 +1,4 @@
-use Rattle.vd_facets.specs.Roles.{read_role}
+use Rattle.vd_operations.specs.Roles.{read_role}
 use Rattle.vd_function_names.proofs.ForeignLemmas.{foreign_some}
 use Rattle.vd_function_names.proofs.foreign.is_foreign.Goals as goal
 use Rattle.vd_meaning.specs.Tables.{table}

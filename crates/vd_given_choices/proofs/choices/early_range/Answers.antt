@@ -1,7 +1,7 @@
 use Rattle.std.proofs.Common.{◌∙◌}
 use Rattle.vd_given_choices.proofs.ChoiceLemmas.{anyway}
 use Rattle.vd_meaning.specs.Brackets.{choice_bounds}
-use Rattle.vd_static_entries.specs.Entries.{IsFound}
+use Rattle.vd_static_values.specs.Entries.{IsFound}
 use Rattle.vd_given_choices.proofs.choices.early_range.Goals as goal
 
 pub returns-then-known : goal.returns-then-known

@@ -3,7 +3,7 @@ use Rattle.std.proofs.lemmas.Iterator.Adapters.{YieldsList-from_vec}
 use Rattle.std.proofs.lemmas.Iterator.Consumers.{YieldsList-end}
 use Rattle.vd_given_choices.proofs.ChoiceLemmas.{none_behind, one_more, same_map, walked_end, walked_more}
 use Rattle.vd_meaning.specs.Meanings.{meanings}
-use Rattle.vd_static_entries.specs.Nodes.{AreNodes}
+use Rattle.vd_static_values.specs.Nodes.{AreNodes}
 use Rattle.vd_given_choices.proofs.choices.with_places.Goals as goal
 
 pub loop-node-preserved : goal.loop-node-preserved

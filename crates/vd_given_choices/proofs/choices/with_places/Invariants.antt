@@ -4,8 +4,8 @@ use Rattle.vd_forest.specs.Forest.{Forest}
 use Rattle.vd_given_choices.proofs.ChoiceLemmas.{Walked}
 use Rattle.vd_value_rules.specs.declared.forms.IndicatedForm.{IndicatedForm}
 use Rattle.vd_meaning.specs.Meanings.{meanings}
-use Rattle.vd_static_entries.specs.Nodes.{AreNodes}
-use Rattle.vd_static_entries.specs.declared.nodes.Node.{Node}
+use Rattle.vd_static_values.specs.Nodes.{AreNodes}
+use Rattle.vd_static_values.specs.declared.nodes.Node.{Node}
 use Rattle.vd_value_rules.specs.Designs.{Design}
 use Rattle.vd_given_choices.proofs.choices.with_places.Given as goal
 

@@ -1,6 +1,6 @@
 use Rattle.std.proofs.Common.{◌≡◌, drop}
 use Rattle.vd_given_choices.specs.Refusals.{not_static_in}
-use Rattle.vd_least.specs.Least.{least_of, lesser}
+use Rattle.vd_walks.specs.Least.{least_of, lesser}
 use Rattle.vd_given_choices.proofs.refusals.first_not_static.Given as goal
 
 abbrev pub invariant-loop-choice : goal.invariant-loop-choice

@@ -1,6 +1,6 @@
 use Rattle.std.proofs.Common.{◌≡◌, [], drop}
 use Rattle.vd_given_choices.specs.Refusals.{bounds_in, repeated_known}
-use Rattle.vd_least.specs.Least.{least_of, lesser}
+use Rattle.vd_walks.specs.Least.{least_of, lesser}
 use Rattle.vd_value_rules.specs.Choices.{share}
 use Rattle.vd_given_choices.proofs.refusals.first_repeated.Given as goal
 

@@ -2,7 +2,7 @@ use Rattle.std.proofs.Common.{◌++◌, ◌∙◌, [], ap, if◌then◌else◌, 
 use Rattle.std.proofs.lemmas.List.{append-nil}
 use Rattle.vd_instance_rules.proofs.FirstLemmas.{joined_with}
 use Rattle.vd_instance_rules.specs.Instances.{actual_for_port, design_at, port_map_at, read_association}
-use Rattle.vd_rule_groups.specs.Groups.{firsts_of}
+use Rattle.vd_value_rules.specs.Groups.{firsts_of}
 use Rattle.vd_value_rules.specs.Actuals.{formal_broken}
 use Rattle.vd_instance_rules.proofs.associations.association_refusals.Goals as goal
 

@@ -2,7 +2,7 @@ use Rattle.std.proofs.Common.{[], ap, refl, sym, take}
 use Rattle.vd_instance_rules.proofs.LoopLemmas.{refusals_all, refusals_more, seen_more}
 use Rattle.vd_instance_rules.proofs.ReadyLemmas.{still_ready}
 use Rattle.vd_instance_rules.specs.Instances.{design_at, port_map_at, read_association, read_associations}
-use Rattle.vd_rule_groups.specs.Groups.{firsts_of, joined_firsts}
+use Rattle.vd_value_rules.specs.Groups.{firsts_of, joined_firsts}
 use Rattle.vd_value_rules.specs.Actuals.{all_associations_broken}
 use Rattle.vd_instance_rules.proofs.associations.associations_refusals.Goals as goal
 

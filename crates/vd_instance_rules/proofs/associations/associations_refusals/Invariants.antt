@@ -2,7 +2,7 @@ use Rattle.std.proofs.Common.{◌≡◌, ◌∷◌, List, [], drop, take}
 use Rattle.vd_instance_rules.specs.Instances.{design_at, port_map_at, ports_for, read_associations}
 use Rattle.vd_known_designs.specs.Designs.{Knows}
 use Rattle.vd_port_associations.specs.Numbers.{Holds}
-use Rattle.vd_rule_groups.specs.Groups.{firsts_of, joined_firsts}
+use Rattle.vd_value_rules.specs.Groups.{firsts_of, joined_firsts}
 use Rattle.vd_value_rules.specs.Actuals.{all_associations_broken}
 use Rattle.vd_value_rules.specs.Designs.{Design}
 use Rattle.vd_value_rules.specs.Knowledge.{Known}

@@ -2,7 +2,7 @@ use Rattle.std.proofs.Common.{◌∙◌, ap, ap₂, sym}
 use Rattle.vd_instance_rules.proofs.FirstLemmas.{found_same}
 use Rattle.vd_instance_rules.proofs.ReadyLemmas.{still_ready}
 use Rattle.vd_instance_rules.specs.Instances.{actual_for_port, design_at, port_map_at, read_association}
-use Rattle.vd_rule_groups.specs.Groups.{firsts_of}
+use Rattle.vd_value_rules.specs.Groups.{firsts_of}
 use Rattle.vd_value_rules.specs.Actuals.{actual_broken, actual_sort, for_port}
 use Rattle.vd_value_rules.specs.Designs.{mode_of_port}
 use Rattle.vd_instance_rules.proofs.associations.refusals_for_port.Goals as goal

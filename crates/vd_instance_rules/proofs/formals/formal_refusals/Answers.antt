@@ -3,7 +3,7 @@ use Rattle.vd_instance_rules.specs.Instances.{read_association}
 use Rattle.vd_port_associations.specs.Associations.{read_formal}
 use Rattle.vd_port_associations.specs.declared.formals.FormalSort.{FormalSort}
 use Rattle.vd_port_modes.specs.Source.{design_in}
-use Rattle.vd_rule_groups.specs.Groups.{firsts_of}
+use Rattle.vd_value_rules.specs.Groups.{firsts_of}
 use Rattle.vd_value_rules.specs.Actuals.{formal_broken}
 use Rattle.vd_value_rules.specs.Judging.{refused_if}
 use Rattle.vd_instance_rules.proofs.formals.formal_refusals.Goals as goal

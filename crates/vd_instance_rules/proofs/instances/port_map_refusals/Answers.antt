@@ -2,7 +2,7 @@ use Rattle.std.proofs.Common.{ap, ◌∙◌, []}
 use Rattle.vd_instance_rules.proofs.FirstLemmas.{joined_with}
 use Rattle.vd_instance_rules.proofs.SameLemmas.{port_map_same}
 use Rattle.vd_instance_rules.specs.Instances.{design_at, missing_broken, port_map_at, read_associations}
-use Rattle.vd_rule_groups.specs.Groups.{firsts_of}
+use Rattle.vd_value_rules.specs.Groups.{firsts_of}
 use Rattle.vd_value_rules.specs.Actuals.{all_associations_broken, associations}
 use Rattle.vd_instance_rules.proofs.instances.port_map_refusals.Goals as goal
 

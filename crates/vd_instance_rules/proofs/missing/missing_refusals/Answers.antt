@@ -1,5 +1,5 @@
 use Rattle.std.proofs.Common.{◌∙◌, ap}
-use Rattle.vd_rule_groups.specs.Groups.{firsts_of}
+use Rattle.vd_value_rules.specs.Groups.{firsts_of}
 use Rattle.vd_value_rules.specs.Judging.{refused_if}
 use Rattle.vd_instance_rules.proofs.missing.missing_refusals.Goals as goal
 

@@ -4,7 +4,7 @@ use Rattle.vd_instance_rules.specs.Instances.{design_at, port_map_at, read_assoc
 use Rattle.vd_port_associations.specs.Associations.{read_actual}
 use Rattle.vd_port_lists.specs.Modes.{read_mode}
 use Rattle.vd_port_lists.specs.declared.modes.PortMode.{PortMode}
-use Rattle.vd_rule_groups.specs.Groups.{firsts_of}
+use Rattle.vd_value_rules.specs.Groups.{firsts_of}
 use Rattle.vd_value_rules.specs.Actuals.{actual_broken, view_broken}
 use Rattle.vd_value_rules.specs.Designs.{Oriented, straight}
 use Rattle.vd_instance_rules.proofs.modes.actual_refusals.Goals as goal

@@ -2,7 +2,7 @@ use Rattle.std.proofs.Common.{◌∙◌, ap, not}
 use Rattle.vd_port_lists.specs.Modes.{read_plain}
 use Rattle.vd_port_modes.specs.Readings.{read_reached}
 use Rattle.vd_port_modes.specs.Source.{design_in}
-use Rattle.vd_rule_groups.specs.Groups.{firsts_of}
+use Rattle.vd_value_rules.specs.Groups.{firsts_of}
 use Rattle.vd_value_rules.specs.Judging.{refused_if}
 use Rattle.vd_instance_rules.proofs.ModeLemmas.{of_conversion, of_no_conversion}
 use Rattle.vd_instance_rules.proofs.modes.converted_refusals.Goals as goal

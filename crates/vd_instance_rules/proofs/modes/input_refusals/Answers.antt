@@ -5,7 +5,7 @@ use Rattle.vd_port_associations.specs.Associations.{read_actual}
 use Rattle.vd_port_associations.specs.declared.actuals.ActualSort.{ActualSort}
 use Rattle.vd_port_modes.specs.Readings.{read_oriented, read_reached}
 use Rattle.vd_port_modes.specs.Source.{Source, design_in}
-use Rattle.vd_rule_groups.specs.Groups.{firsts_of}
+use Rattle.vd_value_rules.specs.Groups.{firsts_of}
 use Rattle.vd_value_rules.specs.Judging.{refused_if}
 use Rattle.vd_value_rules.specs.Actuals.{expression_broken, has_default, input_broken}
 use Rattle.vd_value_rules.specs.Designs.{Oriented}

@@ -6,7 +6,7 @@ use Rattle.vd_port_associations.specs.declared.actuals.ActualSort.{ActualSort}
 use Rattle.vd_port_lists.specs.Modes.{read_plain}
 use Rattle.vd_port_modes.specs.Readings.{read_oriented, read_reached}
 use Rattle.vd_port_modes.specs.Source.{design_in}
-use Rattle.vd_rule_groups.specs.Groups.{firsts_of}
+use Rattle.vd_value_rules.specs.Groups.{firsts_of}
 use Rattle.vd_value_rules.specs.Actuals.{output_broken}
 use Rattle.vd_value_rules.specs.Designs.{Oriented}
 use Rattle.vd_value_rules.specs.Names.{names_view_port}

@@ -5,7 +5,7 @@ use Rattle.vd_port_associations.specs.Associations.{read_actual}
 use Rattle.vd_meaning.specs.NodeFacets.{ByMode}
 use Rattle.vd_port_lists.specs.Modes.{read_plain}
 use Rattle.vd_port_lists.specs.declared.modes.Mode.{Mode}
-use Rattle.vd_rule_groups.specs.Groups.{firsts_of}
+use Rattle.vd_value_rules.specs.Groups.{firsts_of}
 use Rattle.vd_value_rules.specs.Actuals.{actual_broken}
 use Rattle.vd_instance_rules.proofs.modes.plain_refusals.Goals as goal
 

@@ -5,7 +5,7 @@ use Rattle.vd_port_associations.specs.Associations.{read_actual}
 use Rattle.vd_port_associations.specs.declared.actuals.ActualSort.{ActualSort}
 use Rattle.vd_port_modes.specs.Readings.{read_oriented, read_reached}
 use Rattle.vd_port_modes.specs.Source.{design_in}
-use Rattle.vd_rule_groups.specs.Groups.{firsts_of}
+use Rattle.vd_value_rules.specs.Groups.{firsts_of}
 use Rattle.vd_value_rules.specs.Actuals.{view_broken}
 use Rattle.vd_instance_rules.proofs.modes.view_refusals.Goals as goal
 

@@ -2,7 +2,7 @@ use Rattle.std.proofs.Common.{◌∙◌, ap}
 use Rattle.vd_instance_rules.proofs.FirstLemmas.{joined_with}
 use Rattle.vd_port_modes.specs.Readings.{read_reached}
 use Rattle.vd_port_modes.specs.Source.{design_in}
-use Rattle.vd_rule_groups.specs.Groups.{firsts_of}
+use Rattle.vd_value_rules.specs.Groups.{firsts_of}
 use Rattle.vd_value_rules.specs.Judging.{refused_if}
 use Rattle.vd_value_rules.specs.Names.{names_view_port, reads_out}
 use Rattle.vd_instance_rules.proofs.signals.as_value.Goals as goal

@@ -1,5 +1,5 @@
 use Rattle.vd_given_choices.proofs.RuleLemmas.{firsts_of_rules}
-use Rattle.vd_port_agreement.proofs.AgreementLemmas.{signal_of_rules}
+use Rattle.vd_port_associations.proofs.AgreementLemmas.{signal_of_rules}
 use Rattle.vd_port_modes.specs.Readings.{read_oriented, read_reached}
 use Rattle.vd_port_modes.specs.Source.{design_in}
 use Rattle.vd_value_rules.specs.Actuals.{signal_broken}

@@ -3,7 +3,7 @@ use Rattle.vd_instance_rules.proofs.FirstLemmas.{found_same}
 use Rattle.vd_instance_rules.specs.Instances.{whole_or_disagrees}
 use Rattle.vd_port_modes.specs.Readings.{read_oriented, read_reached}
 use Rattle.vd_port_modes.specs.Source.{design_in}
-use Rattle.vd_rule_groups.specs.Groups.{firsts_of}
+use Rattle.vd_value_rules.specs.Groups.{firsts_of}
 use Rattle.vd_instance_rules.proofs.signals.whole_or_disagreeing.Goals as goal
 
 pub returns-then-is_whole : goal.returns-then-is_whole

@@ -1,8 +1,8 @@
 use Rattle.std.proofs.Common.{[], ◌≡◌, ◌<◌, ◌-◌, ◌∷◌, arith, drop, length, map, suc, subst, ◌∙◌, ap}
 use Rattle.vd_known_designs.proofs.MarkLemmas.{marks_at_end, marks_from}
 use Rattle.vd_known_designs.specs.Marks.{mark_of, marks_known}
-use Rattle.vd_known_tables.proofs.KnownLemmas.{known_grown}
-use Rattle.vd_known_tables.specs.Known.{AreKnown, none_known}
+use Rattle.vd_known_designs.proofs.KnownLemmas.{known_grown}
+use Rattle.vd_known_designs.specs.Known.{AreKnown, none_known}
 use Rattle.vd_known_designs.proofs.marks.given_table.Goals as goal
 
 pub loop-left-init : goal.loop-left-init

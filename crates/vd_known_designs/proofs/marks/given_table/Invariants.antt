@@ -1,6 +1,6 @@
 use Rattle.std.proofs.Common.{[], ◌∷◌, ◌≤◌, drop, length, map}
 use Rattle.vd_known_designs.specs.Marks.{HasLiterals, mark_of, marks_known}
-use Rattle.vd_known_tables.specs.Known.{AreKnown}
+use Rattle.vd_known_designs.specs.Known.{AreKnown}
 use Rattle.vd_meaning.specs.Tables.{Table}
 use Rattle.vd_known_designs.proofs.marks.given_table.Given as goal
 

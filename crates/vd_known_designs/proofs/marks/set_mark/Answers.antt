@@ -2,8 +2,8 @@ use Rattle.std.proofs.Common.{[], ◌∷◌, subst}
 use Rattle.std.specs.Result.{OnOk}
 use Rattle.vd_known_designs.proofs.MarkLemmas.{marks_more}
 use Rattle.vd_known_designs.specs.Marks.{indicated_by, marks_known}
-use Rattle.vd_known_tables.proofs.KnownLemmas.{known_grown}
-use Rattle.vd_known_tables.specs.Known.{AreKnown}
+use Rattle.vd_known_designs.proofs.KnownLemmas.{known_grown}
+use Rattle.vd_known_designs.specs.Known.{AreKnown}
 use Rattle.vd_value_rules.specs.Knowledge.{TwoIndicated}
 use Rattle.vd_known_designs.proofs.marks.set_mark.Goals as goal
 

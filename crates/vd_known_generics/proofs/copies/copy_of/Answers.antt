@@ -1,6 +1,6 @@
 use Rattle.std.proofs.Common.{refl, subst, sym}
 use Rattle.vd_known_generics.proofs.CopyLemmas.{entry_of}
-use Rattle.vd_static_entries.specs.Entries.{IsEntry}
+use Rattle.vd_static_values.specs.Entries.{IsEntry}
 use Rattle.vd_known_generics.proofs.copies.copy_of.Goals as goal
 
 pub returns : goal.returns

@@ -1,7 +1,7 @@
 use Rattle.std.proofs.Common.{◌∷◌, subst}
 use Rattle.vd_known_generics.proofs.StandingLemmas.{first_left, next_more, next_missing}
-use Rattle.vd_known_objects.proofs.ObjectLemmas.{knows_changed}
-use Rattle.vd_known_tables.specs.Known.{AreKnown}
+use Rattle.vd_known_forms.proofs.ObjectLemmas.{knows_changed}
+use Rattle.vd_known_designs.specs.Known.{AreKnown}
 use Rattle.vd_value_rules.specs.Declaring.{type_stands}
 use Rattle.vd_known_generics.proofs.generics.type_stands.Goals as goal
 

@@ -1,7 +1,7 @@
 use Rattle.std.proofs.Common.{◌∷◌, map, subst, sym}
-use Rattle.vd_known_actuals.specs.Actuals.{AreActuals}
+use Rattle.vd_known_generics.specs.Actuals.{AreActuals}
 use Rattle.vd_known_generics.proofs.InstanceLemmas.{stands_first}
-use Rattle.vd_known_tables.specs.Contents.{or_nothing}
+use Rattle.vd_known_designs.specs.Contents.{or_nothing}
 use Rattle.vd_meaning.specs.Meanings.{map_element, meanings}
 use Rattle.vd_value_rules.specs.Declaring.{actuals_known}
 use Rattle.vd_known_generics.proofs.instances.generics_stand.Goals as goal

@@ -1,6 +1,6 @@
 use Rattle.std.proofs.Common.{map}
 use Rattle.vd_known_generics.proofs.InstanceLemmas.{inside_none, inside_some}
-use Rattle.vd_known_tables.specs.Contents.{or_nothing}
+use Rattle.vd_known_designs.specs.Contents.{or_nothing}
 use Rattle.vd_meaning.specs.Meanings.{map_element, meanings}
 use Rattle.vd_known_generics.proofs.instances.inside.Goals as goal
 

@@ -4,7 +4,7 @@ use Rattle.vd_known_designs.specs.Designs.{AreIndicated}
 use Rattle.vd_known_generics.proofs.InstanceLemmas.{instance_found, table_changed}
 use Rattle.vd_known_generics.specs.Copied.{AreCopied}
 use Rattle.vd_known_generics.specs.Inside.{inside_of}
-use Rattle.vd_known_tables.specs.Contents.{or_nothing}
+use Rattle.vd_known_designs.specs.Contents.{or_nothing}
 use Rattle.vd_meaning.specs.Meanings.{map_element, meanings}
 use Rattle.vd_meaning.specs.Tables.{pairs}
 use Rattle.vd_value_rules.specs.Declaring.{instance_result}

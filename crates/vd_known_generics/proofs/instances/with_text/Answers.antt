@@ -1,7 +1,7 @@
 use Rattle.std.proofs.Common.{◌∷◌, ap, map, ◌∙◌}
 use Rattle.vd_forest.specs.Forest.{parts_of}
 use Rattle.vd_known_generics.proofs.InstanceLemmas.{at_part, inside_known}
-use Rattle.vd_known_tables.specs.Contents.{or_nothing}
+use Rattle.vd_known_designs.specs.Contents.{or_nothing}
 use Rattle.vd_meaning.specs.Meanings.{map_element, meanings}
 use Rattle.vd_known_generics.proofs.instances.with_text.Goals as goal
 

@@ -1,7 +1,7 @@
 use Rattle.std.proofs.Common.{subst, sym}
 use Rattle.vd_known_indications.proofs.IndicationLemmas.{twice_marked, twice_narrowed}
 use Rattle.vd_meaning.specs.Meanings.{meanings}
-use Rattle.vd_static_entries.specs.Nodes.{AreNodes}
+use Rattle.vd_static_values.specs.Nodes.{AreNodes}
 use Rattle.vd_known_indications.proofs.indications.indicated_twice.Goals as goal
 
 pub narrowed-requires-clause-own_in : goal.narrowed-requires-clause-own_in

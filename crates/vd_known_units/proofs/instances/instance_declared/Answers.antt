@@ -2,7 +2,7 @@ use Rattle.std.proofs.Common.{ap, map, refl, subst, ◌∷◌, ◌∙◌}
 use Rattle.std.specs.Prelude.{OnOk}
 use Rattle.vd_known_designs.specs.Designs.{Knows}
 use Rattle.vd_known_forms.proofs.FormLemmas.{at_part, knows_viewed, ready_again, viewed}
-use Rattle.vd_known_tables.specs.Contents.{or_nothing}
+use Rattle.vd_known_designs.specs.Contents.{or_nothing}
 use Rattle.vd_known_units.proofs.CopyLemmas.{copies_are}
 use Rattle.vd_known_units.proofs.InstanceLemmas.{elements_found, remembers, taken_same, text_known}
 use Rattle.vd_meaning.specs.Facets.{nth}

@@ -3,7 +3,7 @@ use Rattle.std.specs.Prelude.{OnOk}
 use Rattle.vd_forest.specs.Forest.{parts_of}
 use Rattle.vd_known_designs.specs.Designs.{Knows}
 use Rattle.vd_known_forms.proofs.FormLemmas.{ready_again}
-use Rattle.vd_known_tables.specs.Contents.{or_nothing}
+use Rattle.vd_known_designs.specs.Contents.{or_nothing}
 use Rattle.vd_known_units.proofs.InstanceLemmas.{text_known}
 use Rattle.vd_meaning.specs.Meanings.{map_element, meanings}
 use Rattle.vd_value_rules.specs.Declaring.{actuals_known, declared, generics_stand}

@@ -1,5 +1,5 @@
 use Rattle.std.proofs.Common.{refl, sym, ◌∙◌}
-use Rattle.vd_following.proofs.PositionLemmas.{is_empty, less_behind, less_inside, less_round}
+use Rattle.vd_walks.proofs.PositionLemmas.{is_empty, less_behind, less_inside, less_round}
 use Rattle.vd_known_units.proofs.WalkLemmas.{at_end, no_empty, one_behind, one_inside, remembering, walked_first}
 use Rattle.vd_known_forms.proofs.FormLemmas.{knows_viewed, viewed}
 use Rattle.vd_known_units.specs.Walking.{all_declared}

@@ -1,5 +1,5 @@
 use Rattle.std.proofs.Common.{◌*◌, ◌+◌, ◌∷◌, List, reverse}
-use Rattle.vd_following.proofs.PositionLemmas.{work_round}
+use Rattle.vd_walks.proofs.PositionLemmas.{work_round}
 use Rattle.vd_forest.specs.Forest.{size}
 use Rattle.vd_known_units.proofs.WalkLemmas.{Walked}
 use Rattle.vd_known_units.specs.Walking.{all_declared}

@@ -1,6 +1,6 @@
 use Rattle.std.proofs.Common.{◌≡◌}
 use Rattle.vd_forest.specs.Forest.{size}
-use Rattle.vd_sights.specs.Sights.{sight_from}
+use Rattle.vd_visible.specs.Sights.{sight_from}
 use Rattle.vd_naming.specs.Actuals.{behind_meant}
 use Rattle.vd_name_actuals.proofs.meaning.behind_meant.Given as goal
 

@@ -1,6 +1,6 @@
 use Rattle.std.proofs.Common.{IfOk, subst, sym, ◌∙◌}
-use Rattle.vd_sights.specs.Sights.{sight_from, class_of}
-use Rattle.vd_name_outcomes.specs.Made.{IsMade}
+use Rattle.vd_visible.specs.Sights.{sight_from, class_of}
+use Rattle.vd_name_entering.specs.Made.{IsMade}
 use Rattle.vd_name_actuals.specs.Seen.{seen_known}
 use Rattle.vd_name_actuals.proofs.KindLemmas.{not_open}
 use Rattle.vd_name_actuals.proofs.outcomes.outcome_for.Goals as goal

@@ -1,5 +1,5 @@
 use Rattle.std.proofs.Common.{◌≡◌, ◌++◌, drop}
-use Rattle.vd_sights.specs.Sights.{sight_from}
+use Rattle.vd_visible.specs.Sights.{sight_from}
 use Rattle.vd_naming.specs.Actuals.{functions_among}
 use Rattle.vd_name_actuals.proofs.profiles.functions_among.Given as goal
 

@@ -1,7 +1,7 @@
 use Rattle.std.proofs.Common.{◌≡◌, ◌++◌, drop}
 use Rattle.std.specs.List.{filter}
 use Rattle.vd_regions.specs.Homographs.{same_types}
-use Rattle.vd_sights.specs.Sights.{sight_from}
+use Rattle.vd_visible.specs.Sights.{sight_from}
 use Rattle.vd_naming.specs.Actuals.{profile, of_profile}
 use Rattle.vd_name_actuals.proofs.profiles.of_profile.Given as goal
 

@@ -1,5 +1,5 @@
 use Rattle.std.proofs.Common.{◌≡◌, ◌++◌, map, drop}
-use Rattle.vd_sights.specs.Sights.{sight_from, mark_of, parameters_of}
+use Rattle.vd_visible.specs.Sights.{sight_from, mark_of, parameters_of}
 use Rattle.vd_naming.specs.Actuals.{profile}
 use Rattle.vd_name_actuals.proofs.profiles.profile.Given as goal
 

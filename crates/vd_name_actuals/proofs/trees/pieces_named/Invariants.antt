@@ -1,7 +1,7 @@
 use Rattle.std.proofs.Common.{◌≡◌, ◌≤◌, length}
 use Rattle.vd_forest.specs.Forest.{size, turned}
 use Rattle.vd_forest.specs.Store.{at, Extends}
-use Rattle.vd_sights.specs.Sights.{sight_from}
+use Rattle.vd_visible.specs.Sights.{sight_from}
 use Rattle.vd_naming.specs.Actuals.{pieces_named}
 use Rattle.vd_name_actuals.proofs.trees.pieces_named.Given as goal
 

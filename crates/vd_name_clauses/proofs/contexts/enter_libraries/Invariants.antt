@@ -1,6 +1,6 @@
 use Rattle.std.proofs.Common.{◌≡◌, drop}
-use Rattle.vd_name_states.specs.Members.{declared_in}
-use Rattle.vd_name_states.specs.declared.sorts.Sort.TheVariants as sort
+use Rattle.vd_name_rows.specs.Members.{declared_in}
+use Rattle.vd_name_rows.specs.declared.sorts.Sort.TheVariants as sort
 use Rattle.vd_naming.specs.Units.{entering_libraries}
 use Rattle.vd_name_clauses.proofs.contexts.enter_libraries.Given as goal
 

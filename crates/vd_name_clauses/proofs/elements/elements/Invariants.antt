@@ -1,7 +1,7 @@
 use Rattle.std.proofs.Common.{◌≡◌, ◌≤◌, length}
 use Rattle.vd_forest.specs.Forest.{size, turned}
 use Rattle.vd_forest.specs.Store.{at, Extends}
-use Rattle.vd_least.specs.Least.{lesser}
+use Rattle.vd_walks.specs.Least.{lesser}
 use Rattle.vd_naming.specs.Views.{names_of_elements, missing_elements}
 use Rattle.vd_name_clauses.proofs.elements.elements.Given as goal
 

@@ -1,6 +1,6 @@
 use Rattle.std.proofs.Common.{◌≡◌}
 use Rattle.vd_forest.specs.Forest.{size}
-use Rattle.vd_name_states.specs.Entering.{words_of}
+use Rattle.vd_name_rows.specs.Entering.{words_of}
 use Rattle.vd_naming.specs.Endings.{with_formals}
 use Rattle.vd_name_declaring.proofs.formals.note_formals.Given as goal
 

@@ -1,7 +1,7 @@
 use Rattle.std.proofs.Common.{◌≡◌, ◌≤◌, length}
 use Rattle.vd_forest.specs.Forest.{turned}
 use Rattle.vd_forest.specs.Store.{at, Extends}
-use Rattle.vd_name_states.specs.Entering.{numbered}
+use Rattle.vd_name_rows.specs.Entering.{numbered}
 use Rattle.vd_name_declaring.proofs.literals.numbered.Given as goal
 
 abbrev pub invariant-loop-left : goal.invariant-loop-left

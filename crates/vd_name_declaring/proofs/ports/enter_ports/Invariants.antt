@@ -1,6 +1,6 @@
 use Rattle.std.proofs.Common.{◌≡◌}
 use Rattle.vd_forest.specs.Forest.{size}
-use Rattle.vd_least.specs.Least.{lesser}
+use Rattle.vd_walks.specs.Least.{lesser}
 use Rattle.vd_naming.specs.Endings.{entering_ports}
 use Rattle.vd_name_declaring.proofs.ports.enter_ports.Given as goal
 

@@ -1,5 +1,5 @@
 use Rattle.std.proofs.Common.{◌≡◌, drop}
-use Rattle.vd_name_states.specs.Noting.{with_bodies}
+use Rattle.vd_name_rows.specs.Noting.{with_bodies}
 use Rattle.vd_name_entering.proofs.noting.note_bodies.Given as goal
 
 abbrev pub invariant-loop-id : goal.invariant-loop-id

@@ -1,6 +1,6 @@
 use Rattle.std.proofs.Common.{List, ap, sym, ◌∙◌}
-use Rattle.vd_least.specs.Least.{lesser}
-use Rattle.vd_name_states.specs.Entering.{Word, words_of, entering_words}
+use Rattle.vd_walks.specs.Least.{lesser}
+use Rattle.vd_name_rows.specs.Entering.{Word, words_of, entering_words}
 use Rattle.vd_name_entering.proofs.EnteringLemmas.{then_design, then_first}
 use Rattle.vd_name_entering.proofs.words.enter_words.Goals as goal
 

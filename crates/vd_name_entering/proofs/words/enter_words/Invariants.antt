@@ -1,7 +1,7 @@
 use Rattle.vd_forest.specs.Forest.{size}
-use Rattle.vd_least.specs.Least.{lesser}
+use Rattle.vd_walks.specs.Least.{lesser}
 use Rattle.std.proofs.Common.{◌≡◌}
-use Rattle.vd_name_states.specs.Entering.{words_of, entering_words}
+use Rattle.vd_name_rows.specs.Entering.{words_of, entering_words}
 use Rattle.vd_name_entering.proofs.words.enter_words.Given as goal
 
 abbrev pub invariant-loop-node : goal.invariant-loop-node

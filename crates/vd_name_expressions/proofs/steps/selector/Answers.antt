@@ -1,8 +1,8 @@
 use Rattle.std.proofs.Common.{◌≡◌, refl, ap, ◌∙◌}
 use Rattle.vd_forest.specs.Forest.{nothing, more}
-use Rattle.vd_least.specs.Least.{lesser}
+use Rattle.vd_walks.specs.Least.{lesser}
 use Rattle.vd_overloads.specs.declared.wanted.Wanted.TheVariants as wanted
-use Rattle.vd_name_states.specs.Designs.{sight}
+use Rattle.vd_name_rows.specs.Designs.{sight}
 use Rattle.vd_naming.specs.Expressions.{mark_of, read_as, not_selecting}
 use Rattle.vd_name_expressions.proofs.steps.selector.Goals as goal
 

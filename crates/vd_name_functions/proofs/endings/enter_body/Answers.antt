@@ -1,6 +1,6 @@
 use Rattle.std.proofs.Common.{[], ap}
-use Rattle.vd_name_outcomes.specs.Ended.{seen_ended}
-use Rattle.vd_name_states.specs.Designs.{At}
+use Rattle.vd_name_entering.specs.Ended.{seen_ended}
+use Rattle.vd_name_rows.specs.Designs.{At}
 use Rattle.vd_name_functions.proofs.BodyLemmas.{body_entered}
 use Rattle.vd_name_functions.proofs.endings.enter_body.Goals as goal
 

@@ -1,5 +1,5 @@
 use Rattle.std.proofs.Common.{◌∙◌}
-use Rattle.vd_name_outcomes.specs.Ended.{seen_ended}
+use Rattle.vd_name_entering.specs.Ended.{seen_ended}
 use Rattle.vd_name_functions.proofs.BodyLemmas.{body_made}
 use Rattle.vd_name_functions.proofs.endings.new_body_ends.Goals as goal
 

@@ -1,6 +1,6 @@
 use Rattle.std.proofs.Common.{ap, ◌∙◌}
 use Rattle.std.specs.List.{filter}
-use Rattle.vd_name_states.specs.Members.{numbers_in}
+use Rattle.vd_name_rows.specs.Members.{numbers_in}
 use Rattle.vd_naming.specs.Functions.{first_that}
 use Rattle.vd_naming.specs.Units.{is_named}
 use Rattle.vd_name_functions.specs.Headers.{is_open_function}

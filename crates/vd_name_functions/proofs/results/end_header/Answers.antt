@@ -1,5 +1,5 @@
 use Rattle.std.proofs.Common.{refl, ap, ◌∙◌}
-use Rattle.vd_name_states.specs.Designs.{At}
+use Rattle.vd_name_rows.specs.Designs.{At}
 use Rattle.vd_naming.specs.Functions.{written_function}
 use Rattle.vd_name_functions.proofs.HeaderLemmas.{header_made, header_place}
 use Rattle.vd_name_functions.proofs.results.end_header.Goals as goal

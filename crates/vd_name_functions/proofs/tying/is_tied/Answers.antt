@@ -1,6 +1,6 @@
 use Rattle.std.proofs.Common.{◌≡◌, true, sym, ap, ◌∙◌, rules}
-use Rattle.vd_name_states.specs.Designs.{At}
-use Rattle.vd_name_outcomes.specs.Ended.{seen_ended}
+use Rattle.vd_name_rows.specs.Designs.{At}
+use Rattle.vd_name_entering.specs.Ended.{seen_ended}
 use Rattle.vd_naming.specs.Functions.{is_uninstantiated_function}
 use Rattle.vd_name_functions.proofs.TyingLemmas.{tied_by_search}
 use Rattle.vd_name_functions.proofs.tying.is_tied.Goals as goal

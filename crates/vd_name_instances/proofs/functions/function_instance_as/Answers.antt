@@ -1,7 +1,7 @@
 use Rattle.std.proofs.Common.{ap, ◌∙◌}
-use Rattle.vd_least.specs.Least.{lesser}
+use Rattle.vd_walks.specs.Least.{lesser}
 use Rattle.vd_naming.specs.Instances.{function_instance_of, refused_symbol, refused_body}
-use Rattle.vd_name_outcomes.specs.Ended.{seen_ended}
+use Rattle.vd_name_entering.specs.Ended.{seen_ended}
 use Rattle.vd_name_instances.proofs.InstanceLemmas.{made_refused}
 use Rattle.vd_name_instances.proofs.functions.function_instance_as.Goals as goal
 

@@ -1,7 +1,7 @@
 use Rattle.std.proofs.Common.{◌+◌, ◌≤◌, length, map, drop, ◌∙◌, arith}
 use Rattle.vd_naming.specs.Generics.{elements_outcome}
 use Rattle.vd_name_actuals.specs.Seen.{seen_known}
-use Rattle.vd_name_associations.specs.Seen.{seen_element}
+use Rattle.vd_name_maps.specs.Seen.{seen_element}
 use Rattle.vd_name_maps.proofs.ElementsLemmas.{Kept, one_less, none_left, same_kept, next_kept, still_kept, all_made}
 use Rattle.vd_name_maps.proofs.inside.elements_outcome.Goals as goal
 use Rattle.vd_name_maps.proofs.inside.elements_outcome.Goals.{in-Some+in_ok-made-in-Some+in_ok-trees-in-Some, in-None}

@@ -1,10 +1,10 @@
 use Rattle.std.proofs.Common.{◌≡◌, ◌≤◌, length, map, drop}
 use Rattle.vd_forest.specs.Forest.{turned}
 use Rattle.vd_forest.specs.Store.{at, Extends}
-use Rattle.vd_least.specs.Least.{lesser}
+use Rattle.vd_walks.specs.Least.{lesser}
 use Rattle.vd_naming.specs.Generics.{elements_outcome}
 use Rattle.vd_name_actuals.specs.Seen.{seen_known}
-use Rattle.vd_name_associations.specs.Seen.{seen_element}
+use Rattle.vd_name_maps.specs.Seen.{seen_element}
 use Rattle.vd_name_maps.proofs.inside.elements_outcome.Given as goal
 
 abbrev pub invariant-loop-element : goal.invariant-loop-element

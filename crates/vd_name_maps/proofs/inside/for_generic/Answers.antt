@@ -1,11 +1,11 @@
 use Rattle.std.proofs.Common.{subst, ◌∙◌}
 use Rattle.vd_forest.specs.Forest.{Forest, nothing, with_next}
 use Rattle.vd_forms.specs.declared.form.Form.{Form}
-use Rattle.vd_sights.specs.Sights.{sight_from, class_of}
+use Rattle.vd_visible.specs.Sights.{sight_from, class_of}
 use Rattle.vd_naming.specs.Actuals.{outcome_for}
 use Rattle.vd_name_actuals.specs.Seen.{seen_known}
-use Rattle.vd_name_states.specs.Designs.{Outcome}
-use Rattle.vd_name_outcomes.specs.Made.{IsMade}
+use Rattle.vd_name_rows.specs.Designs.{Outcome}
+use Rattle.vd_name_entering.specs.Made.{IsMade}
 use Rattle.vd_name_maps.proofs.inside.for_generic.Goals as goal
 
 pub returns-clause-is : goal.returns-clause-is

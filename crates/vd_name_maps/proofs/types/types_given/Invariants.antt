@@ -1,6 +1,6 @@
 use Rattle.std.proofs.Common.{◌≡◌, ◌++◌, map, drop}
 use Rattle.vd_naming.specs.Actuals.{types_given}
-use Rattle.vd_name_associations.specs.Seen.{seen_element}
+use Rattle.vd_name_maps.specs.Seen.{seen_element}
 use Rattle.vd_name_maps.proofs.types.types_given.Given as goal
 
 abbrev pub invariant-loop-element : goal.invariant-loop-element

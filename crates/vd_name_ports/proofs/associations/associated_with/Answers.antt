@@ -3,9 +3,9 @@ use Rattle.vd_forest.specs.Forest.{Forest, nothing, next_of, with_next}
 use Rattle.vd_forest.specs.Store.{at}
 use Rattle.vd_forest.proofs.StoreLemmas.{extends_trans}
 use Rattle.vd_forms.specs.declared.form.Form.{Form}
-use Rattle.vd_name_states.specs.Designs.{Outcome}
+use Rattle.vd_name_rows.specs.Designs.{Outcome}
 use Rattle.vd_naming.specs.Ports.{actual, association_node, form_of_tree, with_element}
-use Rattle.vd_name_reading.specs.Reads.{IsRead}
+use Rattle.vd_name_expressions.specs.Reads.{IsRead}
 use Rattle.vd_name_ports.specs.Maps.{IsMapped}
 use Rattle.vd_name_ports.proofs.AssociationLemmas.{association_read}
 use Rattle.vd_name_ports.proofs.MapLemmas.{seen_kept}

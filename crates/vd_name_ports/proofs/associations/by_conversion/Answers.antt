@@ -2,13 +2,13 @@ use Rattle.std.proofs.Common.{◌≡◌, IfOk, ap, subst, ◌∙◌}
 use Rattle.vd_forest.specs.Forest.{Forest, nothing, next_of, parts_of, with_next}
 use Rattle.vd_forms.specs.declared.form.Form.{Form}
 use Rattle.vd_regions.specs.Scopes.{declaration_at}
-use Rattle.vd_name_states.specs.declared.notes.Formal.{Formal}
-use Rattle.vd_name_states.specs.Designs.{Outcome}
-use Rattle.vd_name_states.specs.Noting.{formal_at}
-use Rattle.vd_name_states.specs.Refusals.{lesser}
+use Rattle.vd_name_rows.specs.declared.notes.Formal.{Formal}
+use Rattle.vd_name_rows.specs.Designs.{Outcome}
+use Rattle.vd_name_rows.specs.Noting.{formal_at}
+use Rattle.vd_name_rows.specs.Refusals.{lesser}
 use Rattle.vd_naming.specs.Expressions.{mark_of}
 use Rattle.vd_naming.specs.Ports.{converted, converted_type, not_back}
-use Rattle.vd_name_reading.specs.Reads.{IsRead}
+use Rattle.vd_name_expressions.specs.Reads.{IsRead}
 use Rattle.vd_name_ports.specs.Maps.{seen_map, IsMapped}
 use Rattle.vd_name_ports.proofs.AssociationLemmas.{conversion_is}
 use Rattle.vd_name_ports.proofs.MapLemmas.{seen_kept}

@@ -2,9 +2,9 @@ use Rattle.std.proofs.Common.{ℕ, IfOk, Option, sym, subst}
 use Rattle.vd_forest.specs.Forest.{Forest, nothing, more, with_next}
 use Rattle.vd_forms.specs.declared.form.Form.{Form}
 use Rattle.vd_regions.specs.Scopes.{declaration_at}
-use Rattle.vd_name_states.specs.Designs.{Outcome}
+use Rattle.vd_name_rows.specs.Designs.{Outcome}
 use Rattle.vd_naming.specs.Ports.{actual, form_of_tree, placed, with_element}
-use Rattle.vd_name_reading.specs.Reads.{IsRead}
+use Rattle.vd_name_expressions.specs.Reads.{IsRead}
 use Rattle.vd_name_ports.specs.Maps.{seen_map, IsMapped}
 use Rattle.vd_name_ports.proofs.MapLemmas.{seen_kept}
 use Rattle.vd_name_ports.proofs.associations.placed.Goals as goal

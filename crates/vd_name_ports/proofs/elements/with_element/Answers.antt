@@ -1,5 +1,5 @@
 use Rattle.std.proofs.Common.{refl, ap, ◌∙◌}
-use Rattle.vd_name_states.specs.Refusals.{lesser, broken_if}
+use Rattle.vd_name_rows.specs.Refusals.{lesser, broken_if}
 use Rattle.vd_name_ports.proofs.MapLemmas.{element_added}
 use Rattle.vd_name_ports.proofs.elements.with_element.Goals as goal
 

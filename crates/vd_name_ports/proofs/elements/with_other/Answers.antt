@@ -1,6 +1,6 @@
 use Rattle.std.proofs.Common.{false, refl, ap, subst, ◌∙◌}
 use Rattle.vd_forest.specs.Forest.{nothing, more}
-use Rattle.vd_name_states.specs.Refusals.{lesser}
+use Rattle.vd_name_rows.specs.Refusals.{lesser}
 use Rattle.vd_naming.specs.Ports.{with_other}
 use Rattle.vd_name_ports.specs.Maps.{IsMapped}
 use Rattle.vd_name_ports.specs.declared.elements.Mapped as code

@@ -1,5 +1,5 @@
 use Rattle.std.proofs.Common.{ap, sym, ◌∙◌}
-use Rattle.vd_facets.proofs.PassingLemmas.{nth_skipped}
+use Rattle.vd_operations.proofs.PassingLemmas.{nth_skipped}
 use Rattle.vd_meaning.specs.Facets.{nth}
 use Rattle.vd_meaning.specs.Meanings.{meanings}
 use Rattle.vd_name_rules.proofs.views.has_part.Goals as goal

@@ -1,6 +1,6 @@
 use Rattle.std.proofs.Common.{◌≡◌, ◌++◌, drop}
 use Rattle.std.specs.List.{filter}
-use Rattle.vd_name_states.specs.Noting.{is_instance}
+use Rattle.vd_name_rows.specs.Noting.{is_instance}
 use Rattle.vd_naming.specs.Units.{instances_in}
 use Rattle.vd_name_units.proofs.bodies.instances_in.Given as goal
 

@@ -1,6 +1,6 @@
 use Rattle.std.proofs.Common.{◌≡◌}
 use Rattle.vd_forest.specs.Forest.{size}
-use Rattle.vd_sights.specs.Sights.{sight_from}
+use Rattle.vd_visible.specs.Sights.{sight_from}
 use Rattle.vd_naming.specs.Paths.{meant_by, path_meant, prefix_pieces}
 use Rattle.vd_naming.proofs.meant.prefix_meant.Given as goal
 

@@ -1,7 +1,7 @@
 use Rattle.std.proofs.Common.{◌≡◌}
 use Rattle.vd_forest.specs.Forest.{size}
-use Rattle.vd_sights.specs.Sights.{sight_from}
-use Rattle.vd_least.specs.Least.{lesser}
+use Rattle.vd_visible.specs.Sights.{sight_from}
+use Rattle.vd_walks.specs.Least.{lesser}
 use Rattle.vd_naming.specs.Pieces.{refused_behind}
 use Rattle.vd_naming.proofs.pieces.refused_behind.Given as goal
 

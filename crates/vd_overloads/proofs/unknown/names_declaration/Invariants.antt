@@ -1,6 +1,6 @@
 use Rattle.std.proofs.Common.{◌≡◌, false, take, not}
 use Rattle.std.specs.List.{list_any}
-use Rattle.vd_sights.specs.Sights.{sight_from, class_of}
+use Rattle.vd_visible.specs.Sights.{sight_from, class_of}
 use Rattle.vd_overloads.specs.Environment.{is_library}
 use Rattle.vd_overloads.proofs.unknown.names_declaration.Given as goal
 

@@ -1,7 +1,7 @@
 use Rattle.std.proofs.Common.{◌≡◌, false, take}
 use Rattle.std.specs.List.{list_any}
-use Rattle.vd_sights.specs.Lists.{elements_named}
-use Rattle.vd_sights.specs.Sights.{sight_from}
+use Rattle.vd_visible.specs.Lists.{elements_named}
+use Rattle.vd_visible.specs.Sights.{sight_from}
 use Rattle.vd_overloads.specs.Environment.{is_some_list}
 use Rattle.vd_overloads.proofs.unknown.names_element.Given as goal
 

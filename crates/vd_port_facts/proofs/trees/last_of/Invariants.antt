@@ -1,6 +1,6 @@
 use Rattle.std.proofs.Common.{◌≡◌, ◌≤◌}
 use Rattle.vd_forest.specs.Forest.{size, tree_count}
-use Rattle.vd_facets.specs.Passing.{last_tree}
+use Rattle.vd_operations.specs.Passing.{last_tree}
 use Rattle.vd_port_facts.proofs.trees.last_of.Given as goal
 
 abbrev pub invariant-loop-first : goal.invariant-loop-first

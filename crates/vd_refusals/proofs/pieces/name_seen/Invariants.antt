@@ -1,5 +1,5 @@
 use Rattle.std.proofs.Common.{◌≡◌}
-use Rattle.vd_sights.specs.Sights.{sight_from}
+use Rattle.vd_visible.specs.Sights.{sight_from}
 use Rattle.vd_refusals.specs.Seen.{pieces_seen, name_seen}
 use Rattle.vd_forest.specs.Forest.{size}
 use Rattle.vd_refusals.proofs.pieces.name_seen.Given as goal

@@ -1,5 +1,5 @@
 use Rattle.vd_forest.specs.Store.{at}
-use Rattle.vd_indicated_fields.proofs.JumpLemmas.{none_behind, none_of_other}
+use Rattle.vd_static_names.proofs.JumpLemmas.{none_behind, none_of_other}
 use Rattle.vd_static_names.proofs.fields.fields_from.Goals as goal
 
 pub returns-in_default-clause-is : goal.returns-in_default-clause-is

@@ -1,5 +1,5 @@
 use Rattle.std.proofs.Common.{◌≡◌, arith, ◌∙◌}
-use Rattle.vd_indicated_fields.proofs.JumpLemmas.{nothing_left}
+use Rattle.vd_static_names.proofs.JumpLemmas.{nothing_left}
 use Rattle.vd_static_names.proofs.fields.skip.Goals as goal
 
 pub returns-else-here-gt0-clause-is : goal.returns-else-here-gt0-clause-is

@@ -3,7 +3,7 @@ use Rattle.vd_environments.specs.Got.{is_got}
 use Rattle.vd_forest.specs.Store.{at}
 use Rattle.vd_value_rules.specs.Indicated.{element_indicated, indicated_in}
 use Rattle.vd_meaning.specs.Names.{element_of_subtype, stepped, to_element}
-use Rattle.vd_static_entries.specs.Names.{IsName, number_in}
+use Rattle.vd_static_values.specs.Names.{IsName, number_in}
 use Rattle.vd_static_names.proofs.AlikeLemmas.{element_of_name, elements_of_name}
 use Rattle.vd_static_names.proofs.PartLemmas.{element_part}
 use Rattle.vd_static_names.proofs.StepLemmas.{stepped_named}

@@ -1,7 +1,7 @@
 use Rattle.std.proofs.Common.{◌≤◌, ap, length, subst, sym}
 use Rattle.vd_environments.specs.Environments.{Static}
 use Rattle.vd_meaning.specs.Names.{stepped, to_slice}
-use Rattle.vd_static_entries.specs.Names.{IsName, number_in}
+use Rattle.vd_static_values.specs.Names.{IsName, number_in}
 use Rattle.vd_static_names.proofs.PartLemmas.{slice_number, slice_part}
 use Rattle.vd_static_names.proofs.StepLemmas.{stepped_named}
 use Rattle.vd_static_names.proofs.steps.slice.Goals as goal

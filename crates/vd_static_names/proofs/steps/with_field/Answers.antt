@@ -1,6 +1,6 @@
 use Rattle.std.proofs.Common.{◌≤◌, ◌∙◌, length, refl, subst, sym, true}
 use Rattle.vd_meaning.specs.Names.{stepped, to_field}
-use Rattle.vd_static_entries.specs.Names.{IsName, number_in}
+use Rattle.vd_static_values.specs.Names.{IsName, number_in}
 use Rattle.vd_static_names.proofs.PartLemmas.{field_part}
 use Rattle.vd_static_names.proofs.StepLemmas.{stepped_named}
 use Rattle.vd_static_names.proofs.steps.with_field.Goals as goal

@@ -1,7 +1,7 @@
 use Rattle.std.proofs.Common.{ap, sym, ◌∙◌}
 use Rattle.vd_environments.specs.Environments.{own_bounds}
 use Rattle.vd_value_rules.specs.Indicated.{static_of}
-use Rattle.vd_static_entries.specs.Names.{indicated_by}
+use Rattle.vd_static_values.specs.Names.{indicated_by}
 use Rattle.vd_static_names.proofs.AlikeLemmas.{bounds_of_slice}
 use Rattle.vd_static_names.proofs.subtypes.own_bounds.Goals as goal
 

@@ -1,8 +1,8 @@
 use Rattle.std.proofs.Common.{Ok, subst}
 use Rattle.vd_meaning.specs.Brackets.{argument_read, bracketed_known, bracketed_value, qualification_piece}
 use Rattle.vd_meaning.specs.Names.{number_or, qualified}
-use Rattle.vd_static_entries.specs.Entries.{table_of}
-use Rattle.vd_static_entries.specs.Names.{IsName}
+use Rattle.vd_static_values.specs.Entries.{table_of}
+use Rattle.vd_static_values.specs.Names.{IsName}
 use Rattle.vd_static_nodes.proofs.attributes.qualification_piece.Goals as goal
 
 pub returns-clause-node : goal.returns-clause-node

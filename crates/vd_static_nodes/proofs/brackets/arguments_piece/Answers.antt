@@ -1,5 +1,5 @@
 use Rattle.vd_meaning.specs.Brackets.{arguments_piece}
-use Rattle.vd_static_entries.specs.Entries.{table_of}
+use Rattle.vd_static_values.specs.Entries.{table_of}
 use Rattle.vd_static_nodes.proofs.PieceLemmas.{are_arguments}
 use Rattle.vd_static_nodes.proofs.brackets.arguments_piece.Goals as goal
 

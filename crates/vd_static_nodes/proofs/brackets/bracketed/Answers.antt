@@ -1,12 +1,12 @@
 use Rattle.std.proofs.Common.{◌&&◌, ap, subst, sym, ◌∙◌}
-use Rattle.vd_facets.specs.Roles.{read_role}
+use Rattle.vd_operations.specs.Roles.{read_role}
 use Rattle.vd_meaning.specs.Brackets.{argument_read, by_role, called_with, operation_called}
 use Rattle.vd_meaning.specs.Facets.{nth, value_of}
 use Rattle.vd_meaning.specs.Names.{conversion_of, number_or}
 use Rattle.vd_meaning.specs.Tables.{Role, followed, is_vector}
-use Rattle.vd_static_entries.specs.Entries.{table_of}
-use Rattle.vd_static_entries.specs.Names.{IsName}
-use Rattle.vd_static_entries.specs.Nodes.{IsBracketed}
+use Rattle.vd_static_values.specs.Entries.{table_of}
+use Rattle.vd_static_values.specs.Names.{IsName}
+use Rattle.vd_static_values.specs.Nodes.{IsBracketed}
 use Rattle.vd_static_nodes.proofs.PieceLemmas.{other_role}
 use Rattle.vd_static_nodes.proofs.brackets.bracketed.Goals as goal
 

@@ -2,7 +2,7 @@ use Rattle.std.proofs.Common.{sym, ◌∙◌}
 use Rattle.vd_environments.specs.Environments.{both, never}
 use Rattle.vd_meaning.specs.Brackets.{argument_read, arguments_for, operation_called}
 use Rattle.vd_meaning.specs.Facets.{known_of}
-use Rattle.vd_static_entries.specs.Entries.{table_of}
+use Rattle.vd_static_values.specs.Entries.{table_of}
 use Rattle.vd_static_nodes.proofs.CallLemmas.{call_named, edge_named}
 use Rattle.vd_static_nodes.proofs.brackets.call.Goals as goal
 

@@ -2,7 +2,7 @@ use Rattle.std.proofs.Common.{◌&&◌, IfOk, ap, subst, ◌∙◌}
 use Rattle.vd_meaning.specs.Facets.{nth, value_of}
 use Rattle.vd_meaning.specs.Names.{conversion_of}
 use Rattle.vd_meaning.specs.Tables.{is_vector}
-use Rattle.vd_static_entries.specs.Names.{IsName}
+use Rattle.vd_static_values.specs.Names.{IsName}
 use Rattle.vd_static_nodes.proofs.brackets.converted.Goals as goal
 
 pub returns-clause-named : goal.returns-clause-named

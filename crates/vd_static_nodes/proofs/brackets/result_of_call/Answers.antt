@@ -3,7 +3,7 @@ use Rattle.vd_composites.specs.Composites.{Value}
 use Rattle.vd_meaning.specs.Brackets.{arguments_for}
 use Rattle.vd_meaning.specs.Facets.{known_of}
 use Rattle.vd_meaning.specs.Names.{calls_known}
-use Rattle.vd_static_entries.specs.Entries.{table_of}
+use Rattle.vd_static_values.specs.Entries.{table_of}
 use Rattle.vd_static_names.proofs.StopLemmas.{left_true, right_true}
 use Rattle.vd_static_nodes.proofs.ArgumentLemmas.{arguments_found}
 use Rattle.vd_static_nodes.specs.Arguments.{values_for}

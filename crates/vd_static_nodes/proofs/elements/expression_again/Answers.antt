@@ -2,7 +2,7 @@ use Rattle.std.proofs.Common.{length, refl}
 use Rattle.std.proofs.lemmas.Option.{slice_get_past, slice_get_read}
 use Rattle.std.proofs.lemmas.Result.{IfOk-weaker}
 use Rattle.vd_meaning.specs.Facets.{nth}
-use Rattle.vd_static_entries.specs.Nodes.{IsNode}
+use Rattle.vd_static_values.specs.Nodes.{IsNode}
 use Rattle.vd_static_nodes.proofs.ElementLemmas.{expression_there}
 use Rattle.vd_static_nodes.specs.Elements.{IsExpression}
 use Rattle.vd_static_parts.proofs.PartLemmas.{nth_here, nth_missing}

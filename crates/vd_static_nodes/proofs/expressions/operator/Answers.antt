@@ -6,8 +6,8 @@ use Rattle.vd_meaning.specs.Meanings.{operator}
 use Rattle.vd_meaning.specs.Names.{call_known, calls_known, unless_stopped}
 use Rattle.vd_meaning.specs.Operators.{function_of}
 use Rattle.vd_meaning.specs.Tables.{followed}
-use Rattle.vd_static_entries.specs.Entries.{IsFound, table_of}
-use Rattle.vd_static_entries.specs.Nodes.{IsNode}
+use Rattle.vd_static_values.specs.Entries.{IsFound, table_of}
+use Rattle.vd_static_values.specs.Nodes.{IsNode}
 use Rattle.vd_static_nodes.proofs.OperatorLemmas.{unless_late}
 use Rattle.vd_static_names.proofs.StopLemmas.{left_true, right_true}
 use Rattle.vd_static_parts.proofs.StaticLemmas.{not_local, unless_found}

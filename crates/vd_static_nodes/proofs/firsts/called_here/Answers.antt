@@ -1,8 +1,8 @@
 use Rattle.std.proofs.Common.{[], Ok, ap, not, true, ◌∙◌}
 use Rattle.vd_environments.specs.Environments.{Static, always}
 use Rattle.vd_meaning.specs.Names.{calls_known}
-use Rattle.vd_static_entries.specs.Entries.{table_of}
-use Rattle.vd_static_entries.specs.Names.{IsName}
+use Rattle.vd_static_values.specs.Entries.{table_of}
+use Rattle.vd_static_values.specs.Names.{IsName}
 use Rattle.vd_static_nodes.proofs.FirstLemmas.{call_by, no_call}
 use Rattle.vd_static_names.proofs.StopLemmas.{left_true}
 use Rattle.vd_static_nodes.proofs.firsts.called_here.Goals as goal

@@ -1,8 +1,8 @@
 use Rattle.std.proofs.Common.{IfOk, ap, inl, inr, sym, ◌∙◌}
-use Rattle.vd_facets.specs.Roles.{read_role}
+use Rattle.vd_operations.specs.Roles.{read_role}
 use Rattle.vd_meaning.specs.Tables.{ElementRole, FunctionRole, MarkRole, NoRole, SignalRole}
-use Rattle.vd_static_entries.specs.Entries.{table_of}
-use Rattle.vd_static_entries.specs.Names.{IsName}
+use Rattle.vd_static_values.specs.Entries.{table_of}
+use Rattle.vd_static_values.specs.Names.{IsName}
 use Rattle.vd_static_nodes.proofs.FirstLemmas.{standing_by}
 use Rattle.vd_static_nodes.proofs.firsts.first_piece.Goals as goal
 

@@ -2,7 +2,7 @@ use Rattle.vd_environments.specs.Environments.{Env, all_bounds}
 use Rattle.vd_meaning.specs.Facets.{expression}
 use Rattle.vd_meaning.specs.Meanings.{string_value}
 use Rattle.vd_meaning.specs.Names.{first_piece, number_or, unless_stopped}
-use Rattle.vd_static_entries.specs.Entries.{table_of}
+use Rattle.vd_static_values.specs.Entries.{table_of}
 use Rattle.vd_static_parts.proofs.StaticLemmas.{unless_found}
 use Rattle.vd_static_nodes.proofs.literals.string_literal.Goals as goal
 

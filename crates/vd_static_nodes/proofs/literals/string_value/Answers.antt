@@ -1,7 +1,7 @@
 use Rattle.std.proofs.Common.{IfOk, ap, ◌∙◌}
 use Rattle.vd_forest.specs.Store.{at}
 use Rattle.vd_value_rules.specs.Indicated.{indicated_in}
-use Rattle.vd_static_entries.specs.Entries.{IsFound}
+use Rattle.vd_static_values.specs.Entries.{IsFound}
 use Rattle.vd_static_nodes.proofs.StringLemmas.{no_string, string_by}
 use Rattle.vd_value_rules.specs.Knowledge.{indicated_of}
 use Rattle.vd_static_nodes.proofs.literals.string_value.Goals as goal

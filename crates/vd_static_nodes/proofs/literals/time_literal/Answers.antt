@@ -3,7 +3,7 @@ use Rattle.vd_environments.specs.Environments.{always}
 use Rattle.vd_meaning.specs.Facets.{nth}
 use Rattle.vd_meaning.specs.Literals.{physical}
 use Rattle.vd_meaning.specs.Names.{unless_stopped}
-use Rattle.vd_static_entries.specs.Entries.{IsFound}
+use Rattle.vd_static_values.specs.Entries.{IsFound}
 use Rattle.vd_static_parts.proofs.StaticLemmas.{unless_found}
 use Rattle.vd_static_nodes.proofs.literals.time_literal.Goals as goal
 

@@ -1,9 +1,9 @@
 use Rattle.std.proofs.Common.{subst, sym}
 use Rattle.std.specs.Prelude.{IfOk}
 use Rattle.vd_meaning.specs.Names.{Named}
-use Rattle.vd_static_entries.specs.Names.{IsName}
-use Rattle.vd_static_entries.specs.Nodes.{IsField, IsPiece}
-use Rattle.vd_static_entries.specs.declared.nodes.Piece.{Piece}
+use Rattle.vd_static_values.specs.Names.{IsName}
+use Rattle.vd_static_values.specs.Nodes.{IsField, IsPiece}
+use Rattle.vd_static_values.specs.declared.nodes.Piece.{Piece}
 use Rattle.vd_static_nodes.proofs.names.apply.Goals as goal
 
 pub returns-in-Field-clause-named : goal.returns-in-Field-clause-named

@@ -2,8 +2,8 @@ use Rattle.std.proofs.Common.{List, subst, sym}
 use Rattle.vd_meaning.specs.Facets.{from, nth}
 use Rattle.vd_meaning.specs.Kinds
 use Rattle.vd_meaning.specs.Meanings.{named_by}
-use Rattle.vd_static_entries.specs.Nodes.{AreNodes}
-use Rattle.vd_static_entries.specs.declared.nodes.Node.{Node}
+use Rattle.vd_static_values.specs.Nodes.{AreNodes}
+use Rattle.vd_static_values.specs.declared.nodes.Node.{Node}
 use Rattle.vd_static_parts.proofs.MadeLemmas.{made_by}
 use Rattle.vd_static_nodes.proofs.NameLemmas.{nodes_behind}
 use Rattle.vd_static_nodes.proofs.names.whole_name.Goals as goal

@@ -1,9 +1,9 @@
 use Rattle.std.proofs.Common.{subst, sym, ◌∙◌}
 use Rattle.vd_meaning.specs.Names.{Named}
 use Rattle.std.specs.Prelude.{IfOk}
-use Rattle.vd_static_entries.specs.Names.{IsName}
-use Rattle.vd_static_entries.specs.Nodes.{IsBracketed}
-use Rattle.vd_static_entries.specs.declared.nodes.Bracketed.{Bracketed}
+use Rattle.vd_static_values.specs.Names.{IsName}
+use Rattle.vd_static_values.specs.Nodes.{IsBracketed}
+use Rattle.vd_static_values.specs.declared.nodes.Bracketed.{Bracketed}
 use Rattle.vd_static_nodes.proofs.NameLemmas.{no_callee, with_callee}
 use Rattle.vd_static_nodes.proofs.names.with_arguments.Goals as goal
 

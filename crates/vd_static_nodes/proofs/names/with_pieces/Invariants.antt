@@ -1,12 +1,12 @@
 use Rattle.std.proofs.Common.{List, drop}
 use Rattle.vd_environments.specs.Environments.{Env}
-use Rattle.vd_indicated_fields.specs.Jumps.{AreJumps}
+use Rattle.vd_static_names.specs.Jumps.{AreJumps}
 use Rattle.vd_meaning.specs.Facets.{Meaning}
 use Rattle.vd_meaning.specs.Meanings.{named_by}
 use Rattle.vd_meaning.specs.Names.{Named}
-use Rattle.vd_static_entries.specs.Entries.{IsGround}
-use Rattle.vd_static_entries.specs.Names.{IsName}
-use Rattle.vd_static_entries.specs.Nodes.{AreNodes}
+use Rattle.vd_static_values.specs.Entries.{IsGround}
+use Rattle.vd_static_values.specs.Names.{IsName}
+use Rattle.vd_static_values.specs.Nodes.{AreNodes}
 use Rattle.vd_static_names.specs.Known.{IsWithin}
 use Rattle.vd_static_nodes.proofs.NameLemmas.{ComesTo}
 use Rattle.vd_static_nodes.proofs.names.with_pieces.Given as goal

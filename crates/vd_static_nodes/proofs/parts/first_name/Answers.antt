@@ -1,7 +1,7 @@
 use Rattle.std.proofs.Common.{◌≡◌, subst, sym}
 use Rattle.std.proofs.lemmas.Result.{IfOk-weaker}
 use Rattle.vd_meaning.specs.Facets.{Meaning, nth}
-use Rattle.vd_static_entries.specs.Names.{IsName}
+use Rattle.vd_static_values.specs.Names.{IsName}
 use Rattle.vd_static_parts.proofs.PartLemmas.{nth_here, nth_missing}
 use Rattle.vd_static_nodes.proofs.parts.first_name.Goals as goal
 

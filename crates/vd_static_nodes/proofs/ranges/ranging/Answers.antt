@@ -1,7 +1,7 @@
 use Rattle.std.proofs.Common.{Some, refl}
 use Rattle.vd_environments.specs.Got.{is_got, senseless}
 use Rattle.vd_meaning.specs.Names.{unless_stopped}
-use Rattle.vd_static_entries.specs.declared.names.Ranging.TheVariants.{Range}
+use Rattle.vd_static_values.specs.declared.names.Ranging.TheVariants.{Range}
 use Rattle.vd_static_names.proofs.StopLemmas.{left_true}
 use Rattle.vd_static_parts.proofs.StaticLemmas.{unless_found}
 use Rattle.vd_static_nodes.proofs.RangeLemmas.{with_range}

@@ -2,9 +2,9 @@ use Rattle.std.proofs.Common.{refl, subst}
 use Rattle.vd_meaning.specs.Meanings.{selection_piece}
 use Rattle.vd_meaning.specs.Names.{Named}
 use Rattle.vd_meaning.specs.Tables.{Role}
-use Rattle.vd_static_entries.specs.Entries.{table_of}
-use Rattle.vd_static_entries.specs.Names.{IsName}
-use Rattle.vd_static_entries.specs.Nodes.{IsField}
+use Rattle.vd_static_values.specs.Entries.{table_of}
+use Rattle.vd_static_values.specs.Names.{IsName}
+use Rattle.vd_static_values.specs.Nodes.{IsField}
 use Rattle.vd_static_nodes.proofs.FirstLemmas.{other_piece}
 use Rattle.vd_static_nodes.proofs.words.selected.Goals as goal
 

@@ -1,6 +1,6 @@
 use Rattle.vd_meaning.specs.Meanings.{selection_piece}
 use Rattle.vd_meaning.specs.Tables.{role_of}
-use Rattle.vd_static_entries.specs.Entries.{table_of}
+use Rattle.vd_static_values.specs.Entries.{table_of}
 use Rattle.vd_static_nodes.proofs.words.selection_piece.Goals as goal
 
 pub returns-clause-node : goal.returns-clause-node

@@ -1,7 +1,7 @@
 use Rattle.std.proofs.Common.{[], option_to_list, ◌∷◌}
 use Rattle.vd_meaning.specs.Facets.{of_node}
 use Rattle.vd_meaning.specs.Names.{first_piece}
-use Rattle.vd_static_entries.specs.Entries.{table_of}
+use Rattle.vd_static_values.specs.Entries.{table_of}
 use Rattle.vd_static_nodes.proofs.LeafLemmas.{with_texts}
 use Rattle.vd_static_nodes.proofs.words.word.Goals as goal
 

@@ -1,7 +1,7 @@
 use Rattle.std.proofs.Common.{subst, true}
 use Rattle.vd_environments.specs.Environments.{never}
 use Rattle.vd_meaning.specs.Names.{Attribute, attribute_read, attributed, event_value}
-use Rattle.vd_static_entries.specs.Names.{IsName}
+use Rattle.vd_static_values.specs.Names.{IsName}
 use Rattle.vd_static_parts.proofs.attributes.attributed.Goals as goal
 
 pub returns-in-Event-clause-named : goal.returns-in-Event-clause-named

@@ -6,8 +6,8 @@ use Rattle.vd_operators.specs.Applied.{applied}
 use Rattle.vd_operators.specs.declared.op.Op.TheVariants.{SubtypeBound}
 use Rattle.vd_static_parts.proofs.BoundLemmas.{bound_of_array, bound_of_others, bound_of_scalars, has_one, shape_known, subtype_known}
 use Rattle.vd_static_parts.specs.Attributes.{bound_by}
-use Rattle.vd_static_entries.specs.Entries.{IsFound}
-use Rattle.vd_static_entries.specs.Names.{indicated_by}
+use Rattle.vd_static_values.specs.Entries.{IsFound}
+use Rattle.vd_static_values.specs.Names.{indicated_by}
 use Rattle.vd_static_parts.proofs.attributes.bound_value.Goals as goal
 
 pub returns-then-not-name : goal.returns-then-not-name

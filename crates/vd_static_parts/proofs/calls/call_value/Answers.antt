@@ -1,6 +1,6 @@
 use Rattle.std.proofs.Common.{sym, ◌∙◌}
 use Rattle.vd_meaning.specs.Operators.{function_of, operate, operation}
-use Rattle.vd_static_entries.specs.Entries.{table_of}
+use Rattle.vd_static_values.specs.Entries.{table_of}
 use Rattle.vd_static_parts.proofs.CallLemmas.{found_same, predefined_value}
 use Rattle.vd_static_parts.proofs.calls.call_value.Goals as goal
 

@@ -1,7 +1,7 @@
 use Rattle.std.proofs.Common.{IfOk, ap, subst, ◌∙◌}
 use Rattle.vd_value_rules.specs.Indicated.{indicated_in}
 use Rattle.vd_operations.specs.Readings.{read_operation}
-use Rattle.vd_static_entries.specs.Entries.{IsFound, table_of}
+use Rattle.vd_static_values.specs.Entries.{IsFound, table_of}
 use Rattle.vd_static_parts.proofs.CallLemmas.{operator_found}
 use Rattle.vd_static_parts.proofs.calls.operator_value.Goals as goal
 

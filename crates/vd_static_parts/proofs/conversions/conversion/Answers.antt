@@ -2,7 +2,7 @@ use Rattle.std.proofs.Common.{◌&&◌, ap, is_some, refl, subst, sym, ◌∙◌
 use Rattle.vd_meaning.specs.Names.{Named, conversion_known, converting, fresh, tied_through}
 use Rattle.vd_meaning.specs.Tables.{is_vector}
 use Rattle.vd_static_parts.proofs.ConversionLemmas.{tied_known}
-use Rattle.vd_static_entries.specs.Names.{IsName}
+use Rattle.vd_static_values.specs.Names.{IsName}
 use Rattle.vd_static_parts.proofs.conversions.conversion.Goals as goal
 
 pub returns-clause-named : goal.returns-clause-named

@@ -1,6 +1,6 @@
 use Rattle.std.proofs.Common.{subst, sym}
 use Rattle.vd_meaning.specs.Facets.{nth}
-use Rattle.vd_static_entries.specs.Nodes.{IsNode}
+use Rattle.vd_static_values.specs.Nodes.{IsNode}
 use Rattle.vd_static_parts.proofs.PartLemmas.{nth_here, nth_missing}
 use Rattle.vd_static_parts.proofs.copies.first_again.Goals as goal
 

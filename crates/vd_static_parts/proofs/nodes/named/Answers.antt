@@ -1,6 +1,6 @@
 use Rattle.std.proofs.Common.{[], subst, sym}
 use Rattle.vd_meaning.specs.Facets.{expression}
-use Rattle.vd_static_entries.specs.Entries.{IsFound}
+use Rattle.vd_static_values.specs.Entries.{IsFound}
 use Rattle.vd_static_parts.proofs.NodeLemmas.{whole_sense}
 use Rattle.vd_static_parts.proofs.nodes.named.Goals as goal
 

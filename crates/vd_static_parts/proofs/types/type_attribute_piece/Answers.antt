@@ -3,7 +3,7 @@ use Rattle.vd_environments.specs.Environments.{both}
 use Rattle.vd_meaning.specs.Names.{TypeAttribute, type_attribute_value}
 use Rattle.vd_static_parts.proofs.BoundLemmas.{not_known}
 use Rattle.vd_static_parts.proofs.TypeLemmas.{same_attribute}
-use Rattle.vd_static_entries.specs.Entries.{IsFound}
+use Rattle.vd_static_values.specs.Entries.{IsFound}
 use Rattle.vd_static_names.proofs.StopLemmas.{left_true, right_true}
 use Rattle.vd_static_parts.proofs.types.type_attribute_piece.Goals as goal
 

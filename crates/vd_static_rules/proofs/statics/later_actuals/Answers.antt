@@ -1,5 +1,5 @@
 use Rattle.std.proofs.Common.{ap, sym, ◌∙◌}
-use Rattle.vd_least.specs.Least.{least_of, lesser}
+use Rattle.vd_walks.specs.Least.{least_of, lesser}
 use Rattle.vd_meaning.specs.Facets.{nth}
 use Rattle.vd_static_rules.proofs.RuleLemmas.{none_left}
 use Rattle.vd_static_rules.proofs.StaticLemmas.{actual_more}

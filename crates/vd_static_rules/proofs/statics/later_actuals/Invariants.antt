@@ -1,7 +1,7 @@
 use Rattle.std.proofs.Common.{◌≡◌, ◌∷◌, List}
 use Rattle.vd_forest.specs.Forest.{tree_count}
 use Rattle.vd_known_designs.specs.Designs.{Knows}
-use Rattle.vd_least.specs.Least.{least_of, lesser}
+use Rattle.vd_walks.specs.Least.{least_of, lesser}
 use Rattle.vd_value_rules.specs.Designs.{Design}
 use Rattle.vd_value_rules.specs.Knowledge.{Known}
 use Rattle.vd_value_rules.specs.StaticNames.{later_actuals_of}

@@ -1,5 +1,5 @@
 use Rattle.std.proofs.Common.{ap, sym, ◌∙◌}
-use Rattle.vd_least.specs.Least.{least_of, lesser}
+use Rattle.vd_walks.specs.Least.{least_of, lesser}
 use Rattle.vd_static_rules.proofs.RuleLemmas.{none_left}
 use Rattle.vd_static_rules.proofs.StaticLemmas.{signal_more}
 use Rattle.vd_value_rules.specs.StaticNames.{not_static_signals}

@@ -3,7 +3,7 @@ use Rattle.std.specs.Prelude.{IfOk, is_some}
 use Rattle.vd_composites.specs.Composites.{scalar_of}
 use Rattle.vd_forest.specs.Forest.{form_of}
 use Rattle.vd_operators.specs.Texts.{text}
-use Rattle.vd_static_entries.specs.Entries.{IsFound}
+use Rattle.vd_static_values.specs.Entries.{IsFound}
 use Rattle.vd_static_values.proofs.AttributeLemmas.{image_at, image_missing}
 use Rattle.vd_values.specs.declared.scalar.Scalar.TheVariants.{Literal}
 use Rattle.vd_static_values.proofs.attributes.image.Goals as goal

@@ -1,7 +1,7 @@
 use Rattle.std.proofs.Common.{subst}
 use Rattle.vd_value_rules.specs.Indicated.{indicated_in}
 use Rattle.vd_meaning.specs.Names.{whole_converted}
-use Rattle.vd_static_entries.specs.Entries.{IsFound}
+use Rattle.vd_static_values.specs.Entries.{IsFound}
 use Rattle.vd_static_values.proofs.LevelLemmas.{all_fits, one_fits, one_stops, whole_by_head}
 use Rattle.vd_static_values.specs.Levels.{all_whole}
 use Rattle.vd_subtypes.specs.Heads.{fit_head}

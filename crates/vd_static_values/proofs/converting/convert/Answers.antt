@@ -1,7 +1,7 @@
 use Rattle.std.proofs.Common.{Ok, Some, ap, subst, sym, ◌∙◌}
 use Rattle.vd_value_rules.specs.Indicated.{indicated_in}
 use Rattle.vd_meaning.specs.Names.{whole_converted}
-use Rattle.vd_static_entries.specs.Entries.{IsFound}
+use Rattle.vd_static_values.specs.Entries.{IsFound}
 use Rattle.vd_static_values.proofs.LevelLemmas.{converted_is}
 use Rattle.vd_static_values.specs.Levels.{IsOpened, inside_converted}
 use Rattle.vd_static_values.proofs.converting.convert.Goals as goal

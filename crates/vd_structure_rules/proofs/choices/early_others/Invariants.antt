@@ -1,6 +1,6 @@
 use Rattle.std.proofs.Common.{◌≡◌}
 use Rattle.vd_forest.specs.Forest.{tree_count}
-use Rattle.vd_least.specs.Least.{lesser, least_of, refusals}
+use Rattle.vd_walks.specs.Least.{lesser, least_of, refusals}
 use Rattle.vd_structure_rules.specs.Choices.{early_others}
 use Rattle.vd_structure_rules.proofs.choices.early_others.Given as goal
 

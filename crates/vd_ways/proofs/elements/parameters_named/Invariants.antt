@@ -1,7 +1,7 @@
 use Rattle.std.proofs.Common.{◌≡◌, ◌++◌, drop}
 use Rattle.std.specs.List.{filter}
 use Rattle.std.specs.Str.{bytes_eq}
-use Rattle.vd_sights.specs.Sights.{sight_from, name_of}
+use Rattle.vd_visible.specs.Sights.{sight_from, name_of}
 use Rattle.vd_ways.proofs.elements.parameters_named.Given as goal
 
 abbrev pub invariant-loop-parameter : goal.invariant-loop-parameter

@@ -1,5 +1,5 @@
 use Rattle.std.proofs.Common.{◌≡◌, ◌==◌, take, ap, ◌∙◌}
-use Rattle.vd_sights.specs.Sights.{sight_from, parameters_of}
+use Rattle.vd_visible.specs.Sights.{sight_from, parameters_of}
 use Rattle.vd_ways.proofs.PositionLemmas.{no_place, some_place}
 use Rattle.vd_ways.proofs.elements.position_of.Goals as goal
 

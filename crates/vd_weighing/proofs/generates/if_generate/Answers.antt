@@ -1,7 +1,7 @@
 use Rattle.std.proofs.Common.{ap, ◌∙◌}
 use Rattle.vd_forest.specs.Forest.{parts_of}
 use Rattle.vd_forms.specs.declared.form.Form.TheVariants as form
-use Rattle.vd_weights.specs.Weights.{form_is}
+use Rattle.vd_weighing.specs.Weights.{form_is}
 use Rattle.vd_weighing.proofs.GenerateLemmas.{if_generate_cut}
 use Rattle.vd_weighing.proofs.generates.if_generate.Goals as goal
 

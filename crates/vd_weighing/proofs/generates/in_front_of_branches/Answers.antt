@@ -1,5 +1,5 @@
 use Rattle.std.proofs.Common.{◌≡◌, ◌+◌, if◌then◌else◌, ap, sym, subst, ◌∙◌, arith}
-use Rattle.vd_weights.specs.Weights.{conditions, in_front_of_branches}
+use Rattle.vd_weighing.specs.Weights.{conditions, in_front_of_branches}
 use Rattle.vd_weighing.specs.Limits.{at_most}
 use Rattle.vd_weighing.proofs.LimitLemmas.{IsCounted, at_most_small, at_most_twice, counted_none}
 use Rattle.vd_weighing.proofs.GenerateLemmas.{branches_more}

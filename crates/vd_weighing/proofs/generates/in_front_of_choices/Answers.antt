@@ -1,5 +1,5 @@
 use Rattle.std.proofs.Common.{◌≡◌, ◌+◌, ap, sym, subst, ◌∙◌, arith}
-use Rattle.vd_weights.specs.Weights.{in_front_of_choices}
+use Rattle.vd_weighing.specs.Weights.{in_front_of_choices}
 use Rattle.vd_weighing.specs.Limits.{at_most}
 use Rattle.vd_weighing.proofs.LimitLemmas.{IsCounted, at_most_small, at_most_twice, counted_none, counted_all}
 use Rattle.vd_weighing.proofs.GenerateLemmas.{choices_more}

@@ -1,7 +1,7 @@
 use Rattle.std.proofs.Common.{◌≡◌, List}
 use Rattle.vd_declarations.specs.declared.declarations.Declaration.{Declaration}
 use Rattle.vd_forest.specs.Forest.{size}
-use Rattle.vd_weights.specs.Weights.{in_front_of_choices}
+use Rattle.vd_weighing.specs.Weights.{in_front_of_choices}
 use Rattle.vd_weighing.specs.Limits.{at_most}
 use Rattle.vd_weighing.proofs.LimitLemmas.{IsCounted}
 use Rattle.vd_weighing.proofs.generates.in_front_of_choices.Given as goal

@@ -1,6 +1,6 @@
 use Rattle.std.proofs.Common.{◌≡◌, [], sum_by, subst, sym, ap, ◌∙◌, arith}
 use Rattle.std.proofs.lemmas.Grind.{common_steps}
-use Rattle.vd_weights.specs.Weights.{nodes as nodes_of}
+use Rattle.vd_weighing.specs.Weights.{nodes as nodes_of}
 use Rattle.vd_weighing.proofs.LimitLemmas.{IsCounted, counted_none, counted_all}
 use Rattle.vd_weighing.proofs.NodeLemmas.{sum_by_push, nodes_more}
 use Rattle.vd_weighing.proofs.nodes.nodes.Goals as goal

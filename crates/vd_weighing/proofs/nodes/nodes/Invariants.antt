@@ -1,5 +1,5 @@
 use Rattle.std.proofs.Common.{sum_by}
-use Rattle.vd_weights.specs.Weights.{nodes as nodes_of}
+use Rattle.vd_weighing.specs.Weights.{nodes as nodes_of}
 use Rattle.vd_weighing.proofs.LimitLemmas.{IsCounted}
 use Rattle.vd_weighing.proofs.NodeLemmas.{node_steps}
 use Rattle.vd_weighing.proofs.nodes.nodes.Given as goal

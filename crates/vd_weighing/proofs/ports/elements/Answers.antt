@@ -1,5 +1,5 @@
 use Rattle.std.proofs.Common.{ap, sym, subst, ◌∙◌}
-use Rattle.vd_weights.specs.Weights.{times_at, formal_of, elements}
+use Rattle.vd_weighing.specs.Weights.{times_at, formal_of, elements}
 use Rattle.vd_weighing.proofs.LimitLemmas.{IsCounted, counted_none, counted_all}
 use Rattle.vd_weighing.proofs.ViewLemmas.{associations_more}
 use Rattle.vd_weighing.proofs.ports.elements.Goals as goal

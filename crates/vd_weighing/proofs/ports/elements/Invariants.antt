@@ -1,7 +1,7 @@
 use Rattle.std.proofs.Common.{List}
 use Rattle.vd_declarations.specs.declared.declarations.Declaration.{Declaration}
 use Rattle.vd_forest.specs.Forest.{size}
-use Rattle.vd_weights.specs.Weights.{elements}
+use Rattle.vd_weighing.specs.Weights.{elements}
 use Rattle.vd_weighing.proofs.LimitLemmas.{IsCounted}
 use Rattle.vd_weighing.proofs.ports.elements.Given as goal
 

@@ -1,5 +1,5 @@
 use Rattle.std.proofs.Common.{◌+◌, ap, ◌∙◌}
-use Rattle.vd_weights.specs.Weights.{nodes_of_first, part, declared_at, port_map}
+use Rattle.vd_weighing.specs.Weights.{nodes_of_first, part, declared_at, port_map}
 use Rattle.vd_weighing.specs.Limits.{at_most}
 use Rattle.vd_weighing.proofs.LimitLemmas.{sum_of_five}
 use Rattle.vd_weighing.proofs.ports.entity_instance.Goals as goal

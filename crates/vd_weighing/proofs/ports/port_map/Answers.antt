@@ -1,5 +1,5 @@
 use Rattle.std.proofs.Common.{◌+◌, ap, sym, ◌∙◌, arith}
-use Rattle.vd_weights.specs.Weights.{own_weight, elements, declared_by, port_map}
+use Rattle.vd_weighing.specs.Weights.{own_weight, elements, declared_by, port_map}
 use Rattle.vd_weighing.specs.Limits.{at_most}
 use Rattle.vd_weighing.proofs.LimitLemmas.{at_most_small, at_most_plus_right}
 use Rattle.vd_weighing.proofs.ports.port_map.Goals as goal

@@ -1,6 +1,6 @@
 use Rattle.std.proofs.Common.{ap, sym, subst, ◌∙◌}
 use Rattle.vd_forest.specs.Forest.{tree_count}
-use Rattle.vd_weights.specs.Weights.{mode_count, element_count}
+use Rattle.vd_weighing.specs.Weights.{mode_count, element_count}
 use Rattle.vd_weighing.specs.Limits.{at_most}
 use Rattle.vd_weighing.proofs.LimitLemmas.{IsCounted, counted_none, counted_all}
 use Rattle.vd_weighing.proofs.ViewLemmas.{elements_more}

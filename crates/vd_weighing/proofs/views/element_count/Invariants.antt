@@ -1,7 +1,7 @@
 use Rattle.std.proofs.Common.{List}
 use Rattle.vd_declarations.specs.declared.declarations.Declaration.{Declaration}
 use Rattle.vd_forest.specs.Forest.{size}
-use Rattle.vd_weights.specs.Weights.{element_count}
+use Rattle.vd_weighing.specs.Weights.{element_count}
 use Rattle.vd_weighing.proofs.LimitLemmas.{IsCounted}
 use Rattle.vd_weighing.proofs.views.element_count.Given as goal
 

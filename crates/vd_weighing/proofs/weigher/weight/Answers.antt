@@ -1,5 +1,5 @@
 use Rattle.std.proofs.Common.{ap, ◌∙◌}
-use Rattle.vd_walking.specs.Walking.{walked}
+use Rattle.vd_walks.specs.Walking.{walked}
 use Rattle.vd_weighing.specs.Weighing.{weigher}
 use Rattle.vd_weighing.proofs.WeighingLemmas.{weight_is}
 use Rattle.vd_weighing.proofs.weigher.weight.Goals as goal

@@ -1,6 +1,6 @@
 use Rattle.std.proofs.Common.{◌++◌, ◌∙◌, ◌∷◌, ap, map, subst}
 use Rattle.std.specs.Prelude.{option_to_list}
-use Rattle.vd_following.specs.Positions.{tree_of}
+use Rattle.vd_walks.specs.Positions.{tree_of}
 use Rattle.vd_known_designs.specs.Designs.{Knows}
 use Rattle.vd_port_modes.specs.Source.{design_in}
 use Rattle.vd_accepting.proofs.WalkLemmas.{end_known, level_along, levels_less}

@@ -1,5 +1,5 @@
 use Rattle.vd_forest.proofs.StoreLemmas.{extends_trans}
-use Rattle.vd_given.specs.Table.{characters}
+use Rattle.vd_predefined.specs.Table.{characters}
 use Rattle.vd_known_designs.proofs.MarkLemmas.{texts_grown}
 use Rattle.vd_meaning.specs.Given.{bits, severities, truths}
 use Rattle.vd_known_designs.proofs.literals.LiteralLists.add_to.Goals as goal

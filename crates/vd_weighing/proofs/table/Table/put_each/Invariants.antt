@@ -1,6 +1,6 @@
 use Rattle.std.proofs.Common.{◌≡◌}
 use Rattle.vd_forest.specs.Forest.{size}
-use Rattle.vd_weights.specs.Weights.{numbers_of}
+use Rattle.vd_weighing.specs.Weights.{numbers_of}
 use Rattle.vd_weighing.specs.Tables.{with_each}
 use Rattle.vd_weighing.proofs.table.Table.put_each.Given as goal
 

@@ -1,5 +1,0 @@
-pub mod ItemLemmas
-pub mod LikenessLemmas
-pub mod SameLemmas
-pub mod SayingLemmas
-pub mod WordLemmas

@@ -1,2 +1,0 @@
-mod CoverLemmas
-mod TextLemmas

@@ -1,6 +1,0 @@
-use Rattle.std.proofs.Common.{take}
-use Rattle.vd_choice_covering.specs.Covering.{AreIntervals}
-use Rattle.vd_choice_covering.proofs.covering.intervals.Given as goal
-
-abbrev pub invariant-loop-one : goal.invariant-loop-one
-invariant-loop-one l = AreIntervals l.found.items (take l.one-index l.bounds)

@@ -1,4 +1,0 @@
-mod AlternativeLemmas
-mod SelectorLemmas
-mod StatementLemmas
-mod ScalarLemmas

@@ -1,9 +1,0 @@
-use Rattle.std.proofs.Common.{ap, sym, ◌∙◌}
-use Rattle.vd_choice_statements.proofs.StatementLemmas.{word_skipped}
-use Rattle.vd_choice_statements.specs.Statements.{word_there}
-use Rattle.vd_choice_statements.proofs.statements.is_word_there.Goals as goal
-
-pub returns-in-Some : goal.returns-in-Some
-returns-in-Some c = λ d.
-    word_skipped d c.in-Some.number c.args.parts.now c.skip.result c.is_present.result c.skip.ensures (c.is_present.ensures d.table)
-    ∙ sym (ap (λ w. word_there d w c.args.parts.now) c.in-Some.is)

@@ -1,8 +1,0 @@
-use Rattle.vd_elaboration_laws.proofs.Trees.{all_units, all_elaborations}
-use Rattle.vd_elaboration_laws.proofs.laws.alike_units_elaborate_alike.Goals as goal
-
-pub returns-clause-units : goal.returns-clause-units
-returns-clause-units c = all_units
-
-pub returns-clause-trees : goal.returns-clause-trees
-returns-clause-trees c = all_elaborations

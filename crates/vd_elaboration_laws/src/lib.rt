@@ -1,4 +1,0 @@
-//! Laws of elaboration, which passes cite.
-#![tactic(auto)]
-
-pub mod laws;

@@ -1,2 +1,0 @@
-mod StackLemmas
-mod VisitLemmas

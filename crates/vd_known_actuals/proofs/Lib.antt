@@ -1,3 +1,0 @@
-mod ElementLemmas
-mod FunctionLemmas
-pub mod ActualLemmas

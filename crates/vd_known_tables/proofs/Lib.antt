@@ -1,4 +1,0 @@
-pub mod LogLemmas
-pub mod KnownLemmas
-pub mod DeclaredLemmas
-pub mod ShapeLemmas

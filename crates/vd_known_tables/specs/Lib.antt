@@ -1,5 +1,0 @@
-pub mod Slots
-pub mod Contents
-pub mod Known
-pub mod Denoted
-pub mod Shapes

@@ -1,4 +1,0 @@
-pub mod FieldLemmas
-pub mod IndexLemmas
-pub mod TextLemmas
-pub mod TypeLemmas

@@ -1,4 +1,0 @@
-pub mod Expressions
-pub mod Packages
-pub mod Paths
-pub mod Views

@@ -1,5 +1,0 @@
-use Rattle.vd_map_laws.proofs.Relations.{joins_are_those_of_rows}
-use Rattle.vd_map_laws.proofs.laws.joins_are_those_of_rows.Goals as goal
-
-pub returns : goal.returns
-returns c = joins_are_those_of_rows

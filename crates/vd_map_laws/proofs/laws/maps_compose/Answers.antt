@@ -1,8 +1,0 @@
-use Rattle.vd_map_laws.proofs.Composed.{runs_compose, joins_compose}
-use Rattle.vd_map_laws.proofs.laws.maps_compose.Goals as goal
-
-pub returns-clause-runs : goal.returns-clause-runs
-returns-clause-runs c = runs_compose
-
-pub returns-clause-signals : goal.returns-clause-signals
-returns-clause-signals c = joins_compose

@@ -1,5 +1,0 @@
-use Rattle.vd_map_laws.proofs.Traces.{runs_give_traces}
-use Rattle.vd_map_laws.proofs.laws.runs_give_traces.Goals as goal
-
-pub returns : goal.returns
-returns c = runs_give_traces

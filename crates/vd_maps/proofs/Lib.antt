@@ -1,0 +1,13 @@
+pub mod Composed
+pub mod Elaborated
+pub mod Inputs
+pub mod Itself
+pub mod Names
+pub mod OwnInterfaces
+pub mod Relations
+pub mod Staying
+pub mod Tested
+pub mod Tests
+pub mod TopsThere
+pub mod Traces
+pub mod Computed

@@ -1,3 +1,0 @@
-mod MatchLemmas
-mod RefusalLemmas
-mod ValueLemmas

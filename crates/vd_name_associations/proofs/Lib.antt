@@ -1,3 +1,0 @@
-pub mod ElementLemmas
-pub mod LeftLemmas
-pub mod ValueLemmas

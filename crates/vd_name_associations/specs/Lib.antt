@@ -1,4 +1,0 @@
-pub mod Code
-pub mod Named
-pub mod Seen
-pub mod Values

@@ -1,4 +1,0 @@
-pub mod Offsets
-pub mod Noted
-pub mod Copied
-pub mod Sources

@@ -1,4 +1,0 @@
-pub mod GoalLemmas
-pub mod ReachLemmas
-pub mod MemberLemmas
-pub mod PossibleLemmas

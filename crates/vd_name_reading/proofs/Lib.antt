@@ -1,3 +1,0 @@
-pub mod LastLemmas
-pub mod ReadLemmas
-pub mod WholeLemmas

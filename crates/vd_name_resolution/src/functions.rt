@@ -1,0 +1,40 @@
+//! Ends of forms that declare functions, or generics that may be functions.
+
+ghost use Rattle.std.specs.Prelude.{◌≡◌, ◌≤◌, IfOk, length};
+ghost use Rattle.vd_forest.specs.Forest.{Forest};
+ghost use Rattle.vd_forest.specs.Store.{Extends};
+ghost use Rattle.vd_forms.specs.declared.form.Form.{Form as AnyForm};
+ghost use Rattle.vd_name_entering.specs.Ended.{seen_ended};
+ghost use Rattle.vd_name_entering.specs.Made.{IsMade};
+ghost use Rattle.vd_naming.specs.Naming.{ended as outcome_of};
+ghost use Rattle.vd_name_resolution.specs.EndKinds.{kind_of as ending_kind};
+ghost use Rattle.vd_name_resolution.specs.declared.end_kinds.Kind.TheVariants as kind;
+
+use std::alloc::{AllocError, Global};
+use vd_forest::Store;
+use vd_name_entering::{Ended, Made, finished};
+use vd_name_functions::{body_ends, function_ends, generic_function_ends, generic_type_ends};
+use vd_name_rows::{Ending, Names};
+use vd_resolved::Resolved;
+
+/// The end of a form that declares a function, or a generic that may be one.
+pub fn end_function(
+    alloc: Global,
+    names: &mut Names,
+    ending: Ending,
+    ended: &Ended<'_, '_>,
+    out: &mut Store<Resolved>,
+) -> Result<Made, AllocError>
+    requires { ended.now.inner.now.tree ≤ length out.old }
+    ensures is { (whole : Forest AnyForm) → ending_kind ending ≡ kind.Function → IfOk result (λ made.
+        IsMade out.new names.new made (outcome_of whole ending (seen_ended out.old names.old ended.now))) }
+    ensures extends { Extends out.old out.new }
+{
+    match ending {
+        Ending::NewGenericType => generic_type_ends(alloc, names, ended, out),
+        Ending::NewGenericFunction => generic_function_ends(alloc, names, ended, out),
+        Ending::NewFunction => function_ends(alloc, names, ended, out),
+        Ending::BodyEnds => body_ends(alloc, names, ended, out),
+        _ => finished(ended, None, None, ended.inner.tree, None, out),
+    }
+}

@@ -1,0 +1,37 @@
+//! Ends of forms that declare mode views.
+
+ghost use Rattle.std.specs.Prelude.{◌≡◌, ◌≤◌, IfOk, length};
+ghost use Rattle.vd_forest.specs.Forest.{Forest};
+ghost use Rattle.vd_forest.specs.Store.{Extends};
+ghost use Rattle.vd_forms.specs.declared.form.Form.{Form as AnyForm};
+ghost use Rattle.vd_name_entering.specs.Ended.{seen_ended};
+ghost use Rattle.vd_name_entering.specs.Made.{IsMade};
+ghost use Rattle.vd_naming.specs.Naming.{ended as outcome_of};
+ghost use Rattle.vd_name_resolution.specs.EndKinds.{kind_of as ending_kind};
+ghost use Rattle.vd_name_resolution.specs.declared.end_kinds.Kind.TheVariants as kind;
+
+use std::alloc::{AllocError, Global};
+use vd_forest::Store;
+use vd_name_declaring::view_ends;
+use vd_name_entering::{Ended, Made, finished};
+use vd_name_rows::{Ending, Names};
+use vd_resolved::Resolved;
+
+/// The end of a form that declares a mode view.
+pub fn end_view(
+    alloc: Global,
+    names: &mut Names,
+    ending: Ending,
+    ended: &Ended<'_, '_>,
+    out: &mut Store<Resolved>,
+) -> Result<Made, AllocError>
+    requires { ended.now.inner.now.tree ≤ length out.old }
+    ensures is { (whole : Forest AnyForm) → ending_kind ending ≡ kind.View → IfOk result (λ made.
+        IsMade out.new names.new made (outcome_of whole ending (seen_ended out.old names.old ended.now))) }
+    ensures extends { Extends out.old out.new }
+{
+    match ending {
+        Ending::NewView => view_ends(alloc, names, ended, out),
+        _ => finished(ended, None, None, ended.inner.tree, None, out),
+    }
+}

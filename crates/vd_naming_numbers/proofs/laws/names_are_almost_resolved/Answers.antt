@@ -1,5 +1,0 @@
-use Rattle.vd_naming_numbers.proofs.Settling.{names_almost}
-use Rattle.vd_naming_numbers.proofs.laws.names_are_almost_resolved.Goals as goal
-
-pub returns : goal.returns
-returns c = names_almost

@@ -1,2 +1,0 @@
-mod PairLemmas
-pub mod AgreementLemmas

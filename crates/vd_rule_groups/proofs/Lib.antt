@@ -1,3 +1,0 @@
-pub mod FirstLemmas
-pub mod WalkLemmas
-pub mod GroupLemmas

@@ -1,2 +1,0 @@
-//! The first rule that a design breaks, of both revisions: definitions that contracts cite.
-#![tactic(auto)]

@@ -1,5 +1,0 @@
-use Rattle.vd_sights.proofs.TypeListLemmas.{types_stay_below}
-use Rattle.vd_sights.proofs.type_lists.types_stay.Goals as goal
-
-pub returns : goal.returns
-returns c = types_stay_below

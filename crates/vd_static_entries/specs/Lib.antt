@@ -1,4 +1,0 @@
-pub mod Entries
-pub mod Names
-pub mod Nodes
-pub mod Senses

@@ -1,9 +1,0 @@
-use Rattle.vd_value_places.proofs.Converting.{conversions_keep_values}
-use Rattle.vd_value_places.proofs.Keeping.{vectors_are_kept}
-use Rattle.vd_value_places.proofs.laws.conversions_keep_values.Goals as goal
-
-pub returns-clause-expressions : goal.returns-clause-expressions
-returns-clause-expressions c = conversions_keep_values
-
-pub returns-clause-vectors : goal.returns-clause-vectors
-returns-clause-vectors c = vectors_are_kept

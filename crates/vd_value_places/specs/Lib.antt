@@ -1,4 +1,0 @@
-pub mod Places
-pub mod Conversions
-pub mod Laws
-pub mod Plain

@@ -1,0 +1,10 @@
+pub mod Finding
+pub mod Least
+pub mod Laws
+pub mod Gathering
+pub mod Levels
+pub mod Outcomes
+pub mod Walking
+pub mod Positions
+pub mod Trees
+pub mod Visits

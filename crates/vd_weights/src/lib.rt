@@ -1,2 +1,0 @@
-//! The weight of a design: definitions that contracts cite.
-#![tactic(auto)]
