@@ -10,10 +10,10 @@ from vhdl_visibility import Scope
 
 
 class Resolver(Bodies):
-    def __init__(self, text, revision, reading=read):
+    def __init__(self, text, revision):
         self.revision = revision
         super().__init__(Table(revision))
-        self.units = reading(text, revision)
+        self.units = read(text, revision)
         self.given = len(self.table.all)
         self.packages = {3: self.table.regions["standard"], 4: self.table.regions["std_logic_1164"]}
         self.work, self.entities, self.architectures = {}, {}, {}

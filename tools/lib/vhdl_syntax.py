@@ -46,51 +46,24 @@ def listed(parts, before, after):
     return made
 
 
-def designs(text):
-    """The designs of a text: each begins with a comment at the left that has its name; the name, the line and the text of each."""
-    found = []
-    for number, line in enumerate(text.split("\n")):
-        if line.startswith("-- "):
-            found.append((line[3:].split(":")[0], number, []))
-        elif found:
-            found[-1][2].append(line)
-    return [(name, number + 1, "\n".join(lines)) for name, number, lines in found]
-
-
-def moved(node, down):
-    node.place = (node.place[0] + down, node.place[1])
-    for part in node.parts:
-        moved(part, down)
-
-
-def design(name, number, text, revision):
+def design(name, text, revision):
     """The definitions of a design, unit by unit."""
     trees, made = vhdl_all_places.read(text, revision), []
     for at, unit in enumerate(trees):
-        moved(unit, number)
         made += ["", f"abbrev pub {name}_{at} : Forest Form", f"{name}_{at} ="] + ["    " + line for line in lines_of(unit)]
     units = " ∷ ".join(f"{name}_{at}" for at in range(len(trees)))
     return made + ["", f"abbrev pub {name} : Forest Form", f"{name} = side_by_side ({units} ∷ [])"]
 
 
-def front(what, path, text, revision):
-    made = [f"-- {what}. Written by tools/syntax-trees from {path}, which is of revision {revision}:", "--"]
-    made += [f"-- {line}".rstrip() for line in text.rstrip("\n").split("\n")]
-    return made + [
+def module(path, text, revision):
+    """A module with a text that is one design."""
+    front = [f"-- The syntax tree of a design. Written by tools/syntax-trees from {path}, which is of revision {revision}:", "--"]
+    front += [f"-- {line}".rstrip() for line in text.rstrip("\n").split("\n")]
+    front += [
         "use Rattle.std.specs.Prelude.{[], ◌∷◌, codes}",
         "use Rattle.vd_forest.specs.Forest.{Forest}",
         "use Rattle.vd_forms.specs.declared.form.Form.{Form}",
         "use Rattle.vd_forms.specs.declared.form.Form.TheVariants as form",
-        "use Rattle.vd_naming_facts.specs.Trees.{node, leaf, side_by_side}",
+        "use Rattle.vd_named_designs.specs.Trees.{node, leaf, side_by_side}",
     ]
-
-
-def several(path, text, revision):
-    """A module with the designs of a text."""
-    body = [line for found in designs(text) for line in design(*found, revision)]
-    return "\n".join(front("The syntax trees of some designs", path, text, revision) + body) + "\n"
-
-
-def single(path, text, revision):
-    """A module with a text that is one design."""
-    return "\n".join(front("The syntax tree of a design", path, text, revision) + design("units", 0, text, revision)) + "\n"
+    return "\n".join(front + design("units", text, revision)) + "\n"

@@ -1,6 +1,5 @@
 """Writes resolved trees and their declarations as antt definitions."""
 
-import vhdl_places
 from vhdl_resolver import Resolver
 
 WIDTH = 150
@@ -12,8 +11,6 @@ CONSTANTS = [
 
 
 class Writer:
-    nodes, own = "vd_meaning_facts.specs.Trees", "vd_design_facts.specs.Designs"
-
     def __init__(self, resolver):
         self.resolver = resolver
         self.types = {number: name.upper() for name, number in resolver.table.types.items()}
@@ -37,23 +34,19 @@ class Writer:
         self.words.add(name)
         return name
 
-    def at(self, node):
-        """The place of a node, where it has one."""
-        return ""
-
     def head(self, node):
         """The function of a node, in front of its parts; whether it takes parts."""
         plain = node.declaration is None and node.mark is None
         if node.form == "Absent":
             return self.word("absent"), False
         if plain and node.text:
-            return f"{self.word('leaf')}{self.at(node)} form.{node.form} {self.codes(node.text)}", False
+            return f"{self.word('leaf')} form.{node.form} {self.codes(node.text)}", False
         if plain:
-            return f"{self.word('plain')}{self.at(node)} form.{node.form}", True
+            return f"{self.word('plain')} form.{node.form}", True
         if node.declaration is None and not node.text and not node.position:
-            return f"{self.word('of')}{self.at(node)} form.{node.form} {self.number(node.mark)}", True
+            return f"{self.word('of')} form.{node.form} {self.number(node.mark)}", True
         return (
-            f"{self.word('node')}{self.at(node)} form.{node.form} {self.option(node.declaration)} {self.option(node.mark)} {node.position} "
+            f"{self.word('node')} form.{node.form} {self.option(node.declaration)} {self.option(node.mark)} {node.position} "
             f"{self.codes(node.text)}",
             True,
         )
@@ -134,7 +127,7 @@ class Writer:
             made.append(f"use Rattle.vd_predefined.specs.declared.numbers.TheConstants.{{{', '.join(used)}}}")
         nodes = [w for w in ("node", "plain", "absent", "of", "leaf") if w in self.words]
         if nodes:
-            made.append(f"use Rattle.{self.nodes}.{{{', '.join(nodes)}}}")
+            made.append(f"use Rattle.vd_meaning_facts.specs.Trees.{{{', '.join(nodes)}}}")
         return made + further
 
     def file(self, head, body, further=()):
@@ -184,29 +177,10 @@ def units(path, text, revision):
     return writer.file(head_of(path, "The trees of design units that several designs begin with.", text, revision), writer.pieces)
 
 
-class Placed(Writer):
-    """Writes the places of nodes too."""
-
-    nodes = own = "vd_value_rule_facts.specs.Trees"
-
-    def at(self, node):
-        line, column = vhdl_places.place_of(node) or (0, 0)
-        return f" {line} {column}"
-
-
-def case(path, text, revision):
-    """A design whose nodes have places."""
-    resolver = Resolver(text, revision, vhdl_places.read)
-    return written(path, text, revision, Placed(resolver), "", set())
-
-
 def design(path, text, revision, module, shared):
     """A design. The units that others share are in a module of their own."""
-    return written(path, text, revision, Writer(Resolver(text, revision)), module, shared)
-
-
-def written(path, text, revision, writer, module, shared):
-    resolver, borrowed = writer.resolver, []
+    resolver, borrowed = Resolver(text, revision), []
+    writer = Writer(resolver)
     for unit in resolver.trees:
         if "\n".join(Writer(resolver).lines(unit)) in shared:
             borrowed.append(unit_name(unit))
@@ -218,7 +192,7 @@ def written(path, text, revision, writer, module, shared):
     further = [
         f"use Rattle.vd_trees.specs.declared.revision.Revision.TheVariants.{{V{revision}}}",
         "use Rattle.vd_resolved.specs.Trees.{ResolvedTree}",
-        f"use Rattle.{writer.own}.{{{', '.join(['designed'] + [w for w in ('with_generics', 'generic_copy') if w in writer.words])}}}",
+        f"use Rattle.vd_design_facts.specs.Designs.{{{', '.join(['designed'] + [w for w in ('with_generics', 'generic_copy') if w in writer.words])}}}",
     ]
     if borrowed:
         further.append(f"use Rattle.{module}.{{{', '.join(borrowed)}}}")

@@ -1,8 +1,9 @@
 -- Designs with packages, instances and views: from the syntax tree alone, whose names are found by the definitions, a design shows what it shows from the tree that a
--- script resolved. The texts stand in front of their trees.
-use Rattle.std.specs.Prelude.{◌≡◌, ℕ, List, codes}
+-- script resolved; what a design weighs; and what an instance of a package declares. The texts stand in front of their trees.
+use Rattle.std.specs.Prelude.{◌≡◌, ℕ, List, [], ◌∷◌, Some, None, codes}
 use Rattle.vd_forest.specs.Forest.{Forest}
 use Rattle.vd_forms.specs.declared.form.Form.{Form}
+use Rattle.vd_predefined.specs.declared.numbers.TheConstants.{BOOLEAN, INTEGER}
 use Rattle.vd_trees.specs.declared.revision.Revision.TheVariants.{V2019}
 use Rattle.vd_naming.specs.Naming.{names_of}
 use Rattle.vd_naming.specs.Settled.{resolved_tree}
@@ -16,6 +17,8 @@ use Rattle.vd_named_designs.specs.Instances as instances
 use Rattle.vd_named_designs.specs.FunctionInstances as function_instances
 use Rattle.vd_named_designs.specs.NestedViews as nested_views
 use Rattle.vd_named_designs.specs.Links as links
+use Rattle.vd_named_designs.specs.PackageInstance as package_instance
+use Rattle.vd_named_designs.specs.Trees.{declared_by, names_in, marks_in}
 
 -- the text of the trace of an entity, after at most so many cycles
 abbrev pub trace_of : Forest Form → List ℕ → ℕ → List ℕ
@@ -41,3 +44,11 @@ pub record Weights : Type 0 where
   pub function_instances : weight function_instances.units ≡ 118
   pub nested_views : weight nested_views.units ≡ 190
   pub links : weight links.units ≡ 173
+
+pub record InstanceDeclares : Type 0 where
+  -- in order: its generics, and what the package declares besides, but for the operators of the generic type
+  pub names : names_in (declared_by package_instance.units (codes "q"))
+      ≡ codes "t" ∷ codes "c" ∷ codes "f" ∷ codes "r" ∷ codes "\"=\"" ∷ codes "\"/=\"" ∷ codes "d" ∷ codes "g" ∷ []
+  -- with the type of the actual
+  pub types : marks_in (declared_by package_instance.units (codes "q"))
+      ≡ Some INTEGER ∷ Some INTEGER ∷ Some INTEGER ∷ None ∷ Some BOOLEAN ∷ Some BOOLEAN ∷ Some INTEGER ∷ Some INTEGER ∷ []

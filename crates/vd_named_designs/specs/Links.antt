@@ -54,7 +54,7 @@ use Rattle.std.specs.Prelude.{[], ◌∷◌, codes}
 use Rattle.vd_forest.specs.Forest.{Forest}
 use Rattle.vd_forms.specs.declared.form.Form.{Form}
 use Rattle.vd_forms.specs.declared.form.Form.TheVariants as form
-use Rattle.vd_naming_facts.specs.Trees.{node, leaf, side_by_side}
+use Rattle.vd_named_designs.specs.Trees.{node, leaf, side_by_side}
 
 abbrev pub units_0 : Forest Form
 units_0 =

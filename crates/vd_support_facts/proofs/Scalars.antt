@@ -8,8 +8,8 @@ use Rattle.vd_values.specs.declared.logic.Logic.TheVariants.{U, X, Zero, One, Z,
 use Rattle.vd_vectors.specs.declared.orders.Relation.TheVariants.{IsLess, IsAtMost, IsGreater, IsAtLeast}
 use Rattle.vd_vectors.specs.Support as vectors
 use Rattle.vd_operators.specs.Support as texts
-use Rattle.vd_support_trees.specs.Matching.{vd_cond, vd_eq, vd_eqb, vd_ltb, vd_leb, vd_gtb, vd_geb}
-use Rattle.vd_support_trees.specs.Texts.{vd_str}
+use Rattle.vd_support_facts.specs.MatchingBodies.{vd_cond, vd_eq, vd_eqb, vd_ltb, vd_leb, vd_gtb, vd_geb}
+use Rattle.vd_support_facts.specs.TextBodies.{vd_str}
 use Rattle.vd_support_facts.specs.Calls.{called}
 use Rattle.vd_support_facts.specs.Scalars.{FunctionsOfValues}
 

@@ -23,7 +23,7 @@ use Rattle.vd_meaning.specs.Meanings.{meanings}
 use Rattle.vd_meaning.specs.Operators.{function_of}
 use Rattle.vd_meaning.specs.Names.{number_or}
 use Rattle.vd_meaning.specs.Given.{given_env}
-use Rattle.vd_support_trees.specs.Declarations.{declarations}
+use Rattle.vd_support_facts.specs.Declarations.{declarations}
 
 -- ---- calls
 

@@ -1,3 +1,10 @@
+pub mod Declarations
+pub mod MatchingBodies
+pub mod ReductionBodies
+pub mod MixedBodies
+pub mod MixedBitBodies
+pub mod ShiftBodies
+pub mod TextBodies
 pub mod Calls
 pub mod Matching
 pub mod Reductions

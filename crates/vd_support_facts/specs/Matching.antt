@@ -7,8 +7,8 @@ use Rattle.vd_operators.specs.declared.op.Op.TheVariants.{Unary, Binary}
 use Rattle.vd_operators.specs.declared.op.UnaryOp.TheVariants.{Condition}
 use Rattle.vd_operators.specs.declared.op.BinaryOp.TheVariants.{Matching, MatchingOrder}
 use Rattle.vd_operators.specs.Support.{characters}
-use Rattle.vd_support_trees.specs.Matching.{vd_cond, vd_eq, vd_eqv, vd_eqb, vd_eqbv}
-use Rattle.vd_support_trees.specs.Matching.{vd_ltb, vd_leb, vd_gtb, vd_geb, vd_dash}
+use Rattle.vd_support_facts.specs.MatchingBodies.{vd_cond, vd_eq, vd_eqv, vd_eqb, vd_eqbv}
+use Rattle.vd_support_facts.specs.MatchingBodies.{vd_ltb, vd_leb, vd_gtb, vd_geb, vd_dash}
 use Rattle.vd_support_facts.specs.Calls.{Agree, Case, gives, stops, for_each, rows_of, for_bits, of_text, results, logic, logics, bit, bits, yes, no, upto, downto, nothing_from_zero, nothing_at_the_least}
 
 -- ---- `??`: '1' and 'H' hold

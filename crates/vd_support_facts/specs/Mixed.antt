@@ -7,10 +7,10 @@ use Rattle.vd_vectors.specs.declared.logics.LogicType.TheVariants.{TwoValued, Ni
 use Rattle.vd_vectors.specs.declared.logical.LogicalOperator.TheVariants.{And, Or, Xor}
 use Rattle.vd_operators.specs.declared.op.Op.TheVariants.{Binary}
 use Rattle.vd_operators.specs.declared.op.BinaryOp.TheVariants.{Logical}
-use Rattle.vd_support_trees.specs.Mixed.{vd_and_vs, vd_or_vs, vd_xor_vs}
-use Rattle.vd_support_trees.specs.Mixed.{vd_and_sv, vd_or_sv, vd_xor_sv}
-use Rattle.vd_support_trees.specs.MixedBits.{vd_band_vs, vd_bor_vs, vd_bxor_vs}
-use Rattle.vd_support_trees.specs.MixedBits.{vd_band_sv, vd_bor_sv, vd_bxor_sv}
+use Rattle.vd_support_facts.specs.MixedBodies.{vd_and_vs, vd_or_vs, vd_xor_vs}
+use Rattle.vd_support_facts.specs.MixedBodies.{vd_and_sv, vd_or_sv, vd_xor_sv}
+use Rattle.vd_support_facts.specs.MixedBitBodies.{vd_band_vs, vd_bor_vs, vd_bxor_vs}
+use Rattle.vd_support_facts.specs.MixedBitBodies.{vd_band_sv, vd_bor_sv, vd_bxor_sv}
 use Rattle.vd_support_facts.specs.Calls.{Agree, Case, gives, logic, logics, bit, bits, upto, downto, nothing_from_zero, nothing_at_the_least}
 
 -- an array and a scalar, or the other way round

@@ -4,8 +4,8 @@ use Rattle.vd_vectors.specs.declared.logics.LogicType.TheVariants.{TwoValued, Ni
 use Rattle.vd_vectors.specs.declared.logical.LogicalOperator.TheVariants.{And, Or, Xor}
 use Rattle.vd_operators.specs.declared.op.Op.TheVariants.{Unary}
 use Rattle.vd_operators.specs.declared.op.UnaryOp.TheVariants.{Reduction}
-use Rattle.vd_support_trees.specs.Reductions.{vd_rand, vd_ror1, vd_rxor}
-use Rattle.vd_support_trees.specs.Reductions.{vd_brand, vd_bror, vd_brxor}
+use Rattle.vd_support_facts.specs.ReductionBodies.{vd_rand, vd_ror1, vd_rxor}
+use Rattle.vd_support_facts.specs.ReductionBodies.{vd_brand, vd_bror, vd_brxor}
 use Rattle.vd_support_facts.specs.Calls.{Agree, Case, gives, logic, logics, bit, bits, upto, downto, nothing_from_zero, nothing_at_the_least}
 
 abbrev pub conjunctions : List Case

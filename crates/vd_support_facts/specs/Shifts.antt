@@ -4,7 +4,7 @@ use Rattle.vd_vectors.specs.declared.logics.LogicType.TheVariants.{NineValued}
 use Rattle.vd_vectors.specs.declared.shifts.ShiftOperator.TheVariants.{LogicalLeft, LogicalRight, RotateLeft, RotateRight}
 use Rattle.vd_operators.specs.declared.op.Op.TheVariants.{Binary}
 use Rattle.vd_operators.specs.declared.op.BinaryOp.TheVariants.{Shift}
-use Rattle.vd_support_trees.specs.Shifts.{vd_sll, vd_srl, vd_rol, vd_ror}
+use Rattle.vd_support_facts.specs.ShiftBodies.{vd_sll, vd_srl, vd_rol, vd_ror}
 use Rattle.vd_support_facts.specs.Calls.{Agree, Case, gives, of_text, results, logics, integer, upto, downto, nothing_from_zero, nothing_at_the_least}
 
 -- "1HZ", by a count, is some elements

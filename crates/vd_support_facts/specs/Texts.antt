@@ -4,7 +4,7 @@ use Rattle.vd_operators.specs.declared.op.Op.TheVariants.{Unary}
 use Rattle.vd_operators.specs.declared.op.UnaryOp.TheVariants.{Text}
 use Rattle.vd_operators.specs.declared.texts.TextOperator.TheVariants.{LogicText, LogicsText}
 use Rattle.vd_operators.specs.Support.{characters}
-use Rattle.vd_support_trees.specs.Texts.{vd_str, vd_strv}
+use Rattle.vd_support_facts.specs.TextBodies.{vd_str, vd_strv}
 use Rattle.vd_support_facts.specs.Calls.{Agree, Case, gives, for_each, logics, string, upto, downto, nothing_from_zero, nothing_at_the_least}
 
 abbrev pub of_values : List Case

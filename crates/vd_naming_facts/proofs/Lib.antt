@@ -1,3 +1,0 @@
-mod Packages
-mod Functions
-mod Views

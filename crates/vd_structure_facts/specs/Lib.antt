@@ -1,8 +1,0 @@
-pub mod Trees
-pub mod Choices
-pub mod Waits
-pub mod Loops
-pub mod Functions
-pub mod Names
-pub mod Calls
-pub mod Facts

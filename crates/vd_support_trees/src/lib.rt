@@ -1,2 +1,0 @@
-//! The text of the support package as resolved trees, which are definitions.
-#![tactic(auto)]
