@@ -7,13 +7,14 @@ use Rattle.vd_values.specs.declared.scalar.Scalar.{Scalar}
 use Rattle.vd_values.specs.declared.scalar.StopKind.{StopKind}
 use Rattle.vd_values.specs.declared.scalar.Scalar.TheVariants.{Literal as OfLiteral}
 use Rattle.vd_composites.specs.declared.ranges.Bounds.{Bounds}
+use Rattle.vd_composites.specs.declared.vectors.Elements.{Elements}
 use Rattle.vd_composites.specs.declared.nodes.Node.{Node}
 use Rattle.vd_composites.specs.declared.nodes.Node.TheVariants.{Integer, Literal, Time, Array as ArrayNode, Right, Fields as FieldsNode}
 use Rattle.vd_composites.specs.Stops.{OrStop, ◌>>=◌}
 use Rattle.vd_composites.specs.Ranges.{length_of}
 use Rattle.vd_composites.specs.Composites.{One, Items, none, item, count, without, first_of, same_value, same_items}
 use Rattle.vd_composites.specs.Nodes.{bounds_from, array_in_front, record_in_front, read, after, value_in, width_of}
-use Rattle.vd_composites.specs.Vectors.{positions_in, positions_of, literals, node_position, positions_at, First, AScalar, AnArray, ARecord, Nothing, first_in, same_first}
+use Rattle.vd_composites.specs.Vectors.{integer_position, positions_in, positions_as, literals, node_position, positions_at, First, AScalar, AnArray, ARecord, Nothing, first_in, same_first}
 use Rattle.vd_composites.proofs.ItemLemmas.{count_first}
 use Rattle.vd_composites.proofs.NodeLemmas.{some_same, counted}
 use Rattle.vd_composites.proofs.NodeSteps.{tail_of}
@@ -27,21 +28,21 @@ more_of (Ok qs) made p = λ i. Ok (sym (append_assoc made (p ∷ []) qs) i)
 more_of (Err e) made p = refl
 
 -- one node more is read
-pub one_read : (made : List ℤ) (i : ℕ) (ns : List Node) (n : Node) (p : ℤ) → i < length ns → n ≡ get_or ns i n → node_position n ≡ Ok p →
-    (positions_at (drop i ns) >>= λ ps. Ok (made ++ ps)) ≡ (positions_at (drop (i + 1) ns) >>= λ ps. Ok ((made ++ p ∷ []) ++ ps))
-one_read made i ns n p below here e =
+pub one_read : (of : Elements) (made : List ℤ) (i : ℕ) (ns : List Node) (n : Node) (p : ℤ) → i < length ns → n ≡ get_or ns i n → node_position of n ≡ Ok p →
+    (positions_at of (drop i ns) >>= λ ps. Ok (made ++ ps)) ≡ (positions_at of (drop (i + 1) ns) >>= λ ps. Ok ((made ++ p ∷ []) ++ ps))
+one_read of made i ns n p below here e =
     let same : suc i ≡ i + 1 = omega arith in
     let split : drop i ns ≡ n ∷ drop (i + 1) ns = drop-cons ns i n below ∙ (λ j. sym here j ∷ drop (same j) ns) in
-    ap (λ xs. positions_at xs >>= λ ps. Ok (made ++ ps)) split
-    ∙ ap (λ g. (g >>= λ q. positions_at (drop (i + 1) ns) >>= λ ps. Ok (q ∷ ps)) >>= λ ps. Ok (made ++ ps)) e
-    ∙ more_of (positions_at (drop (i + 1) ns)) made p
+    ap (λ xs. positions_at of xs >>= λ ps. Ok (made ++ ps)) split
+    ∙ ap (λ g. (g >>= λ q. positions_at of (drop (i + 1) ns) >>= λ ps. Ok (q ∷ ps)) >>= λ ps. Ok (made ++ ps)) e
+    ∙ more_of (positions_at of (drop (i + 1) ns)) made p
 
-pub none_read : (made : List ℤ) (i : ℕ) (ns : List Node) (n : Node) (e : StopKind) → i < length ns → n ≡ get_or ns i n → node_position n ≡ Err e →
-    (positions_at (drop i ns) >>= λ ps. Ok (made ++ ps)) ≡ Err e
-none_read made i ns n k below here e =
+pub none_read : (of : Elements) (made : List ℤ) (i : ℕ) (ns : List Node) (n : Node) (e : StopKind) → i < length ns → n ≡ get_or ns i n → node_position of n ≡ Err e →
+    (positions_at of (drop i ns) >>= λ ps. Ok (made ++ ps)) ≡ Err e
+none_read of made i ns n k below here e =
     let split : drop i ns ≡ n ∷ drop (suc i) ns = drop-cons ns i n below ∙ (λ j. sym here j ∷ drop (suc i) ns) in
-    ap (λ xs. positions_at xs >>= λ ps. Ok (made ++ ps)) split
-    ∙ ap (λ g. (g >>= λ q. positions_at (drop (suc i) ns) >>= λ ps. Ok (q ∷ ps)) >>= λ ps. Ok (made ++ ps)) e
+    ap (λ xs. positions_at of xs >>= λ ps. Ok (made ++ ps)) split
+    ∙ ap (λ g. (g >>= λ q. positions_at of (drop (suc i) ns) >>= λ ps. Ok (q ∷ ps)) >>= λ ps. Ok (made ++ ps)) e
 
 -- nothing was read yet
 pub unread : (g : OrStop (List ℤ)) → (g >>= λ ps. Ok ([] ++ ps)) ≡ g
@@ -49,18 +50,18 @@ unread (Ok ps) = refl
 unread (Err e) = refl
 
 -- items of nodes have the positions of the nodes
-pub same_positions : (m : ℕ) (ns : List Node) → after m ns ≡ Some 0 → positions_in (read ns) ≡ positions_at ns
-same_positions m [] h = refl
-same_positions zero (x ∷ ns) h = absurd cc
-same_positions (suc m) (Integer x ∷ ns) h = ap (λ g. g >>= λ ps. Ok (x ∷ ps)) (same_positions m ns h)
-same_positions (suc m) (Literal n ∷ ns) h = ap (λ g. g >>= λ ps. Ok (pos n ∷ ps)) (same_positions m ns h)
-same_positions (suc m) (Time t ∷ ns) h = refl
-same_positions (suc m) (ArrayNode left down ∷ Right right ∷ ns) h = refl
-same_positions (suc m) (FieldsNode n ∷ ns) h = refl
-same_positions (suc m) (x ∷ ns) h = absurd cc
+pub same_positions : (of : Elements) (m : ℕ) (ns : List Node) → after m ns ≡ Some 0 → positions_in of (read ns) ≡ positions_at of ns
+same_positions of m [] h = refl
+same_positions of zero (x ∷ ns) h = absurd cc
+same_positions of (suc m) (Integer x ∷ ns) h = ap (λ g. integer_position of x >>= λ p. g >>= λ ps. Ok (p ∷ ps)) (same_positions of m ns h)
+same_positions of (suc m) (Literal n ∷ ns) h = ap (λ g. g >>= λ ps. Ok (pos n ∷ ps)) (same_positions of m ns h)
+same_positions of (suc m) (Time t ∷ ns) h = refl
+same_positions of (suc m) (ArrayNode left down ∷ Right right ∷ ns) h = refl
+same_positions of (suc m) (FieldsNode n ∷ ns) h = refl
+same_positions of (suc m) (x ∷ ns) h = absurd cc
 
-pub array_positions : (ns : List Node) (b : Bounds) → IsArray ns b → positions_of (value_in (read ns)) ≡ positions_at (take (length ns - 2) (drop 2 ns))
-array_positions ns b a = ap positions_of a.is ∙ same_positions (length_of b) (drop 2 ns) a.whole ∙ ap positions_at (sym (tail_of 2 ns))
+pub array_positions : (of : Elements) (ns : List Node) (b : Bounds) → IsArray ns b → positions_as of (value_in (read ns)) ≡ positions_at of (take (length ns - 2) (drop 2 ns))
+array_positions of ns b a = ap (positions_as of) a.is ∙ same_positions of (length_of b) (drop 2 ns) a.whole ∙ ap (positions_at of) (sym (tail_of 2 ns))
 
 -- ---- literals
 

@@ -4,6 +4,8 @@ use Rattle.vd_values.specs.declared.scalar.Scalar.{Scalar}
 use Rattle.vd_values.specs.declared.scalar.Scalar.TheVariants.{Integer, Literal, Time}
 use Rattle.vd_composites.specs.declared.ranges.Bounds.{Bounds}
 use Rattle.vd_composites.specs.declared.nodes.Node.{Node}
+use Rattle.vd_composites.specs.declared.vectors.Elements.{Elements}
+use Rattle.vd_composites.specs.declared.vectors.Elements.TheVariants.{Discrete, Literals}
 use Rattle.vd_composites.specs.declared.nodes.Node.TheVariants.{Integer as IntegerNode, Literal as LiteralNode, Time as TimeNode, Array as ArrayNode, Right, Fields as FieldsNode}
 use Rattle.vd_composites.specs.Stops.{OrStop, ◌>>=◌}
 use Rattle.vd_composites.specs.Ranges.{length_of}
@@ -12,22 +14,40 @@ use Rattle.vd_composites.specs.Composites.{Value, One, Array, Items, none, item}
 use Rattle.vd_composites.specs.Nodes.{bounds_from}
 use Rattle.vd_composites.specs.Parts.{misshapen}
 
--- the position of a discrete value, that is of an integer or a literal
-abbrev pub discrete_position : Scalar → OrStop ℤ
-discrete_position (Integer x) = Ok x
-discrete_position (Literal n) = Ok (pos n)
-discrete_position (Time t) = misshapen
+-- An integer is a discrete value, and no literal.
+abbrev pub integer_position : Elements → ℤ → OrStop ℤ
+integer_position Discrete x = Ok x
+integer_position Literals x = misshapen
 
--- the positions of discrete items
-abbrev pub positions_in : Items Scalar → OrStop (List ℤ)
-positions_in none = Ok []
-positions_in (item (One x) vs) = discrete_position x >>= λ p. positions_in vs >>= λ ps. Ok (p ∷ ps)
-positions_in (item _ vs) = misshapen
+-- the position of a discrete value, that is of an integer or a literal, or of a literal alone
+abbrev pub position_as : Elements → Scalar → OrStop ℤ
+position_as of (Integer x) = integer_position of x
+position_as of (Literal n) = Ok (pos n)
+position_as of (Time t) = misshapen
 
--- the positions of the elements of an array of discrete elements, from the left
+abbrev pub literal_position : Scalar → OrStop ℤ
+literal_position x = position_as Literals x
+
+-- the positions of items
+abbrev pub positions_in : Elements → Items Scalar → OrStop (List ℤ)
+positions_in of none = Ok []
+positions_in of (item (One x) vs) = position_as of x >>= λ p. positions_in of vs >>= λ ps. Ok (p ∷ ps)
+positions_in of (item _ vs) = misshapen
+
+abbrev pub literal_positions_in : Items Scalar → OrStop (List ℤ)
+literal_positions_in vs = positions_in Literals vs
+
+-- the positions of the elements of an array, from the left
+abbrev pub positions_as : Elements → Value Scalar → OrStop (List ℤ)
+positions_as of (Array b vs) = positions_in of vs
+positions_as of _ = misshapen
+
+-- those of an array of discrete elements, and of one of literals
 abbrev pub positions_of : Value Scalar → OrStop (List ℤ)
-positions_of (Array b vs) = positions_in vs
-positions_of _ = misshapen
+positions_of v = positions_as Discrete v
+
+abbrev pub literal_positions_of : Value Scalar → OrStop (List ℤ)
+literal_positions_of v = positions_as Literals v
 
 -- literals of an enumeration type at these positions
 abbrev pub literals : List ℕ → Items Scalar
@@ -36,14 +56,14 @@ literals (n ∷ ns) = item (One (Literal n)) (literals ns)
 
 -- ---- over nodes
 
-abbrev pub node_position : Node → OrStop ℤ
-node_position (IntegerNode x) = Ok x
-node_position (LiteralNode n) = Ok (pos n)
-node_position _ = misshapen
+abbrev pub node_position : Elements → Node → OrStop ℤ
+node_position of (IntegerNode x) = integer_position of x
+node_position of (LiteralNode n) = Ok (pos n)
+node_position of _ = misshapen
 
-abbrev pub positions_at : List Node → OrStop (List ℤ)
-positions_at [] = Ok []
-positions_at (n ∷ ns) = node_position n >>= λ p. positions_at ns >>= λ ps. Ok (p ∷ ps)
+abbrev pub positions_at : Elements → List Node → OrStop (List ℤ)
+positions_at of [] = Ok []
+positions_at of (n ∷ ns) = node_position of n >>= λ p. positions_at of ns >>= λ ps. Ok (p ∷ ps)
 
 -- what begins with some nodes: a scalar value, an array with its bounds, a record with so many fields, or nothing
 pub data First : Type 0 where

@@ -9,7 +9,7 @@ ghost use Rattle.vd_composites.specs.Composites.{Value as AnyValue};
 ghost use Rattle.vd_composites.specs.Nodes.{after, read, value_in};
 ghost use Rattle.vd_composites.specs.Parts.{AtField, AtIndex, AtSlice, array_of, part, with_part};
 ghost use Rattle.vd_composites.specs.Stops.{OrStop};
-ghost use Rattle.vd_composites.specs.Vectors.{literals, positions_of};
+ghost use Rattle.vd_composites.specs.Vectors.{literal_positions_of, literals, positions_of};
 ghost use Rattle.vd_composites.specs.Subtypes.{Arrays, Records, Scalars, Subtype, Subtypes, fit, number_of};
 
 use crate::ends::ValueEnd;
@@ -20,7 +20,7 @@ use crate::parts::{element_nodes, field_nodes, slice_nodes};
 use crate::ranges::Bounds;
 use crate::replacing::{with_element_nodes, with_field_nodes, with_slice_nodes};
 use crate::scalars::ScalarSubtype;
-use crate::vectors::{literal_nodes, positions_nodes, same_nodes};
+use crate::vectors::{Elements, literal_nodes, positions_nodes, same_nodes};
 use std::alloc::{AllocError, Global};
 use std::marker::Model;
 use vd_values::Scalar;
@@ -151,7 +151,14 @@ impl Value {
     pub fn positions(&self, alloc: Global) -> Result<Vec<i64>, ValueEnd>
         ensures { ListAnswers result (positions_of self.now) }
     {
-        positions_nodes(alloc, &self.nodes)
+        positions_nodes(alloc, Elements::Discrete, &self.nodes)
+    }
+
+    /// The positions of the elements, where the value is an array of literals.
+    pub fn literal_positions(&self, alloc: Global) -> Result<Vec<i64>, ValueEnd>
+        ensures { ListAnswers result (literal_positions_of self.now) }
+    {
+        positions_nodes(alloc, Elements::Literals, &self.nodes)
     }
 
     /// An array of literals with these bounds, by their positions.

@@ -5,7 +5,7 @@ ghost use Rattle.vd_composites.specs.Answers.{ListAnswers, MadeNodes};
 ghost use Rattle.vd_composites.specs.Composites.{same_value};
 ghost use Rattle.vd_composites.specs.Nodes.{after, read, value_in};
 ghost use Rattle.vd_composites.specs.Parts.{array_of};
-ghost use Rattle.vd_composites.specs.Vectors.{literals, node_position, positions_at, positions_of, first_in, same_first};
+ghost use Rattle.vd_composites.specs.Vectors.{integer_position, literals, node_position, positions_as, positions_at, first_in, same_first};
 ghost use Rattle.vd_composites.specs.declared.nodes.Node.TheVariants.{Array, Literal, Right};
 
 use crate::ends::ValueEnd;
@@ -14,26 +14,45 @@ use crate::ranges::Bounds;
 use std::alloc::{AllocError, Global};
 use vd_values::StopKind;
 
-/// The position of the discrete value that a node is.
-fn position_of(node: Node) -> Result<i64, StopKind>
-    ensures { result ≡ node_position node }
+/// Which scalar values are taken by their positions.
+#[derive(Clone, Copy, PartialEq, Eq, Debug)]
+pub(crate) enum Elements {
+    /// Integers and literals.
+    Discrete,
+    /// Literals alone.
+    Literals,
+}
+
+/// The position of an integer.
+fn position_of_integer(of: Elements, x: i32) -> Result<i64, StopKind>
+    ensures { result ≡ integer_position of x }
+{
+    match of {
+        Elements::Discrete => Ok(i64::from(x)),
+        Elements::Literals => Err(StopKind::Range),
+    }
+}
+
+/// The position of the value that a node is.
+fn position_of(of: Elements, node: Node) -> Result<i64, StopKind>
+    ensures { result ≡ node_position of node }
 {
     match node {
-        Node::Integer(x) => Ok(i64::from(x)),
+        Node::Integer(x) => position_of_integer(of, x),
         Node::Literal(position) => Ok(i64::from(position)),
         _ => Err(StopKind::Range),
     }
 }
 
-/// The positions of discrete values.
-fn positions_behind(alloc: Global, nodes: &[Node]) -> Result<Vec<i64>, ValueEnd>
-    ensures { ListAnswers result (positions_at nodes.now) }
+/// The positions of some values.
+fn positions_behind(alloc: Global, of: Elements, nodes: &[Node]) -> Result<Vec<i64>, ValueEnd>
+    ensures { ListAnswers result (positions_at of nodes.now) }
 {
     let Ok(mut positions) = Vec::with_capacity(alloc, nodes.len()) else {
         return Err(ValueEnd::Memory);
     };
     for node in nodes {
-        match position_of(*node) {
+        match position_of(of, *node) {
             Err(kind) => return Err(ValueEnd::Stop(kind)),
             Ok(position) => {
                 if positions.push(position).is_err() {
@@ -46,15 +65,19 @@ fn positions_behind(alloc: Global, nodes: &[Node]) -> Result<Vec<i64>, ValueEnd>
 }
 
 /// The positions of the elements of an array.
-pub(crate) fn positions_nodes(alloc: Global, nodes: &[Node]) -> Result<Vec<i64>, ValueEnd>
+pub(crate) fn positions_nodes(
+    alloc: Global,
+    of: Elements,
+    nodes: &[Node],
+) -> Result<Vec<i64>, ValueEnd>
     requires { after 1 nodes.now ≡ Some 0 }
-    ensures { ListAnswers result (positions_of (value_in (read nodes.now))) }
+    ensures { ListAnswers result (positions_as of (value_in (read nodes.now))) }
 {
     let _most = nodes.len();
     let Some(_bounds) = bounds_at(nodes) else {
         return Err(ValueEnd::Stop(StopKind::Range));
     };
-    positions_behind(alloc, &nodes[2..])
+    positions_behind(alloc, of, &nodes[2..])
 }
 
 /// The nodes of an array of literals.

@@ -4,9 +4,11 @@ use Rattle.vd_values.specs.declared.scalar.Scalar.{Scalar}
 use Rattle.vd_values.specs.declared.logic.Logic.{Logic}
 use Rattle.vd_values.specs.LogicTables.{column_of}
 use Rattle.vd_composites.specs.declared.ranges.Bounds.{Bounds}
+use Rattle.vd_composites.specs.Stops.{OrStop, ◌>>=◌}
 use Rattle.vd_composites.specs.Ranges.{from_one}
 use Rattle.vd_composites.specs.Composites.{Value, Array}
 use Rattle.vd_composites.specs.Vectors.{literals}
+use Rattle.vd_vectors.specs.Logics.{bounds_from_one}
 use Rattle.vd_vectors.specs.Support.{value, values}
 use Rattle.vd_operators.specs.declared.texts.TextOperator.TheVariants.{LogicText, LogicsText}
 use Rattle.vd_operators.specs.Texts.{written}
@@ -18,17 +20,17 @@ characters = 85 ∷ 88 ∷ 48 ∷ 49 ∷ 90 ∷ 87 ∷ 76 ∷ 72 ∷ 45 ∷ []
 abbrev pub character : Logic → ℕ
 character a = slice_index_or characters (column_of a) 0
 
--- a STRING with the bounds 1 to n
-abbrev pub string : List ℕ → Value Scalar
-string codes = Array (from_one (length codes)) (literals codes)
+-- a STRING with the bounds 1 to n, where these belong to the index subtype
+abbrev pub string : List ℕ → OrStop (Value Scalar)
+string codes = bounds_from_one (length codes) >>= λ b. Ok (Array b (literals codes))
 
 -- the character of a value, and those of the elements from the left
 abbrev pub vd_str : Logic → Value Scalar
-vd_str a = string (character a ∷ [])
+vd_str a = Array (from_one 1) (literals (character a ∷ []))
 
-abbrev pub vd_strv : List Logic → Value Scalar
+abbrev pub vd_strv : List Logic → OrStop (Value Scalar)
 vd_strv xs = string (map character xs)
 
 pub record SupportWritesTexts : Type 0 where
   pub of_value : (a : Logic) → written LogicText (value a) ≡ Ok (vd_str a)
-  pub of_vector : (b : Bounds) (xs : List Logic) → written LogicsText (values b xs) ≡ Ok (vd_strv xs)
+  pub of_vector : (b : Bounds) (xs : List Logic) → written LogicsText (values b xs) ≡ vd_strv xs

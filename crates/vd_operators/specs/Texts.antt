@@ -1,5 +1,5 @@
--- What 'image and `to_string` write. (IEEE 1076-2019, 5.7 and 16.2; IEEE 1076-1993, 14.1.) A text is a value of STRING with the bounds 1 to n; the position of a
--- character in its type is its code.
+-- What 'image and `to_string` write. (IEEE 1076-2019, 5.7 and 16.2; IEEE 1076-1993, 14.1.) A text is a value of STRING with the bounds 1 to n, where these belong to
+-- the index subtype; the position of a character in its type is its code.
 use Rattle.std.specs.Prelude.{ℕ, ◌+◌, nat_le, ◌&&◌, List, [], ◌∷◌, length, map, slice_get, Ok, if◌then◌else◌}
 use Rattle.std.specs.Fmt.{signed_decimal}
 use Rattle.vd_values.specs.declared.scalar.Scalar.{Scalar}
@@ -7,12 +7,11 @@ use Rattle.vd_values.specs.declared.scalar.Scalar.TheVariants.{Integer as OfInte
 use Rattle.vd_values.specs.declared.logic.Logic.{Logic}
 use Rattle.vd_values.specs.declared.logic.Logic.TheVariants.{U, X, Zero, One, Z, W, L, H, Dash}
 use Rattle.vd_composites.specs.Stops.{OrStop, ◌>>=◌}
-use Rattle.vd_composites.specs.Ranges.{from_one}
 use Rattle.vd_composites.specs.Composites.{Value, scalar_of}
 use Rattle.vd_composites.specs.Parts.{misshapen, array_of}
 use Rattle.vd_composites.specs.Vectors.{literals}
 use Rattle.vd_vectors.specs.declared.logics.LogicType.TheVariants.{NineValued}
-use Rattle.vd_vectors.specs.Logics.{or_misshapen, logic_in, logics_in}
+use Rattle.vd_vectors.specs.Logics.{bounds_from_one, or_misshapen, logic_in, logics_in}
 use Rattle.vd_operators.specs.Arithmetic.{integer_in}
 use Rattle.vd_operators.specs.declared.texts.LiteralName.{LiteralName}
 use Rattle.vd_operators.specs.declared.texts.LiteralName.TheVariants.{Character, Word}
@@ -21,7 +20,7 @@ use Rattle.vd_operators.specs.declared.texts.TextOperator.TheVariants.{IntegerTe
 
 -- a text by its codes
 abbrev pub text : List ℕ → OrStop (Value Scalar)
-text cs = array_of (from_one (length cs)) (literals cs)
+text cs = bounds_from_one (length cs) >>= λ b. array_of b (literals cs)
 
 -- a letter of ASCII as a small one, every other byte as it is
 abbrev pub small : ℕ → ℕ

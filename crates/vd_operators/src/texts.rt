@@ -7,10 +7,10 @@ ghost use Rattle.vd_operators.specs.Texts.{character_of, image_of, small, text a
 
 use crate::arithmetic::as_integer;
 use std::alloc::{AllocError, Global};
-use vd_composites::{Bounds, Value, ValueEnd};
+use vd_composites::{Value, ValueEnd};
 use vd_values::{Logic, Scalar, StopKind};
 use vd_vectors::LogicType;
-use vd_vectors::logics::{as_logic, as_logics};
+use vd_vectors::logics::{as_logic, as_logics, bounds_from_one};
 
 /// A literal of an enumeration type.
 #[derive(Drop)]
@@ -37,15 +37,10 @@ pub enum TextOperator {
 fn text(alloc: Global, codes: &[u8]) -> Result<Value, ValueEnd>
     ensures { Answers result (text_value codes.now) }
 {
-    let Ok(length) = i64::try_from(codes.len()) else {
-        return Err(ValueEnd::Memory);
-    };
-    let bounds = Bounds {
-        left: 1,
-        right: length,
-        down: false,
-    };
-    Value::of_literals(alloc, bounds, codes)
+    match bounds_from_one(codes.len()) {
+        Ok(bounds) => Value::of_literals(alloc, bounds, codes),
+        Err(kind) => Err(ValueEnd::Stop(kind)),
+    }
 }
 
 /// The digits of an integer.

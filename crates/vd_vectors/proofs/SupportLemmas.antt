@@ -9,7 +9,7 @@ use lib.ListN.{replicate}
 use Rattle.std.specs.Prelude.{nat_lt, ◌/◌, ◌==◌, not, ◌&&◌, ◌+ℤ◌, ◌-ℤ◌, Ok, Err, ◌↔◌, SomeIndex, slice_index_or, if◌then◌else◌}
 use Rattle.vd_values.specs.declared.scalar.Scalar.{Scalar}
 use Rattle.vd_values.specs.declared.scalar.Scalar.TheVariants.{Literal}
-use Rattle.vd_values.specs.declared.scalar.StopKind.TheVariants.{Range, Length}
+use Rattle.vd_values.specs.declared.scalar.StopKind.TheVariants.{Index, Range, Length}
 use Rattle.vd_values.specs.declared.logic.Logic.{Logic}
 use Rattle.vd_values.specs.declared.logic.Logic.TheVariants.{U, X, Zero, One, Z, W, L, H, Dash}
 use Rattle.vd_values.specs.LogicTables.{column_of, and_of, not_of}
@@ -20,7 +20,7 @@ use Rattle.vd_composites.specs.Ranges.{length_of, from_one, size_of}
 use Rattle.vd_composites.specs.Composites.{Value, Array, Items, count}
 use Rattle.vd_composites.specs.Composites.{One as OneValue}
 use Rattle.vd_composites.specs.Parts.{array_of}
-use Rattle.vd_composites.specs.Vectors.{literals, positions_in}
+use Rattle.vd_composites.specs.Vectors.{literals, literal_positions_in}
 use Rattle.vd_vectors.specs.declared.logics.LogicType.{LogicType}
 use Rattle.vd_vectors.specs.declared.logics.LogicType.TheVariants.{TwoValued, NineValued}
 use Rattle.vd_vectors.specs.declared.logical.LogicalOperator.{LogicalOperator}
@@ -29,7 +29,7 @@ use Rattle.vd_vectors.specs.declared.shifts.ShiftOperator.{ShiftOperator}
 use Rattle.vd_vectors.specs.declared.shifts.ShiftOperator.TheVariants.{LogicalLeft, LogicalRight, RotateLeft, RotateRight}
 use Rattle.vd_vectors.specs.declared.orders.Relation.{Relation}
 use Rattle.vd_vectors.specs.declared.orders.Relation.TheVariants.{IsLess, IsAtMost, IsGreater, IsAtLeast}
-use Rattle.vd_vectors.specs.Logics.{logic_in, logics_in, logics_at, logic_value, position_in, result_array, truth}
+use Rattle.vd_vectors.specs.Logics.{logic_array, logic_in, logics_in, logics_at, logic_value, position_in, result_array, truth}
 use Rattle.vd_vectors.specs.Logical.{logical_of, logical, negated, reduced, reduction, folded}
 use Rattle.vd_vectors.specs.Shifts.{places, shift, shifted}
 use Rattle.vd_vectors.specs.Matching.{match_all, match_both, matches, condition, equal_or_not}
@@ -254,7 +254,7 @@ rotations_right n xs k h =
 
 -- ---- what values are read as, and what they are made of
 
-positions_read : (ns : List ℕ) → positions_in (literals ns) ≡ Ok (map (λ n. pos n) ns)
+positions_read : (ns : List ℕ) → literal_positions_in (literals ns) ≡ Ok (map (λ n. pos n) ns)
 positions_read [] = refl
 positions_read (n ∷ ns) = ap (λ g. g >>= λ ps. Ok (pos n ∷ ps)) (positions_read ns)
 
@@ -311,13 +311,25 @@ whole b vs h = let t : (count vs == length_of b) ≡ true = grind (arith, nat_te
 pub numbers_made : (ns : List ℕ) → array_of (from_one (length ns)) (literals ns) ≡ Ok (Array (from_one (length ns)) (literals ns))
 numbers_made ns = whole (from_one (length ns)) (literals ns) (count_literals ns ∙ sym (from_one_long (length ns)))
 
+-- with the bounds 1 to n, where these belong to the index subtype, and where they don't
+pub numbers_by : (too_long : Bool) (ns : List ℕ) → ((if too_long then Err Index else Ok (from_one (length ns))) >>= λ b. array_of b (literals ns))
+    ≡ ((if too_long then Err Index else Ok (from_one (length ns))) >>= λ b. Ok (Array b (literals ns)))
+numbers_by true ns = refl
+numbers_by false ns = numbers_made ns
+
 numbers : (xs : List Bool) → map (position_in TwoValued) (map of_bool xs) ≡ map number_of xs
 numbers [] = refl
 numbers (true ∷ xs) = ap (λ ns. 1 ∷ ns) (numbers xs)
 numbers (false ∷ xs) = ap (λ ns. 0 ∷ ns) (numbers xs)
 
-vector_made : (b : Bounds) (xs : List Logic) → result_array NineValued b xs ≡ Ok (vector xs)
-vector_made b xs = whole (from_one (length xs)) (literals (map column_of xs)) (count_literals (map column_of xs) ∙ length-map xs column_of ∙ sym (from_one_long (length xs)))
+-- where the bounds 1 to n belong to the index subtype, and where they don't
+vector_by : (too_long : Bool) (xs : List Logic) → ((if too_long then Err Index else Ok (from_one (length xs))) >>= λ c. logic_array NineValued c xs)
+    ≡ ((if too_long then Err Index else Ok (from_one (length xs))) >>= λ c. Ok (values c xs))
+vector_by true xs = refl
+vector_by false xs = whole (from_one (length xs)) (literals (map column_of xs)) (count_literals (map column_of xs) ∙ length-map xs column_of ∙ sym (from_one_long (length xs)))
+
+vector_made : (b : Bounds) (xs : List Logic) → result_array NineValued b xs ≡ vector xs
+vector_made b xs = vector_by (nat_lt 2147483647 (length xs)) xs
 
 bits_made : (b : Bounds) (xs : List Bool) → length xs ≡ length_of b → result_array TwoValued b (map of_bool xs) ≡ Ok (bits b xs)
 bits_made b xs h = ap (λ ns. array_of b (literals ns)) (numbers xs) ∙ whole b (literals (map number_of xs)) (count_literals (map number_of xs) ∙ length-map xs number_of ∙ h)
@@ -538,14 +550,14 @@ mapped_twice g f [] = refl
 mapped_twice g f (x ∷ xs) = ap (λ ys. g (f x) ∷ ys) (mapped_twice g f xs)
 
 values_each : (o : LogicalOperator) (b : Bounds) (xs : List Logic) (y : Logic) (f : Logic → Logic) → ((x : Logic) → logical_of o x y ≡ f x) →
-    logical o NineValued (values b xs) (value y) ≡ Ok (vector (map f xs))
+    logical o NineValued (values b xs) (value y) ≡ vector (map f xs)
 values_each o b xs y f h =
     read_one NineValued (values b xs) (value y) xs y (λ us w. result_array NineValued b (map (λ x. logical_of o x w) us)) (values_read b xs) (value_read y)
     ∙ ap (λ us. result_array NineValued b us) (mapped (λ x. logical_of o x y) f h xs)
     ∙ vector_made b (map f xs)
 
 value_each : (o : LogicalOperator) (x : Logic) (b : Bounds) (ys : List Logic) (f : Logic → Logic) → ((y : Logic) → logical_of o x y ≡ f y) →
-    logical o NineValued (value x) (values b ys) ≡ Ok (vector (map f ys))
+    logical o NineValued (value x) (values b ys) ≡ vector (map f ys)
 value_each o x b ys f h =
     read_other NineValued (value x) (values b ys) x ys (λ w us. result_array NineValued b (map (λ y. logical_of o w y) us)) (value_read x) (values_read b ys)
     ∙ ap (λ us. result_array NineValued b us) (mapped (λ y. logical_of o x y) f h ys)
@@ -559,22 +571,28 @@ pair_joined Exclusion x y = refl
 pair_denied : (j : Junction) (x y : Logic) → logical_of (denied j) x y ≡ not_of (of_values j x y)
 pair_denied j x y = denied_pair j x y ∙ ap not_of (pair_joined j x y)
 
-vector_negated : (b : Bounds) (xs : List Logic) → negated NineValued (values b xs) ≡ Ok (vector (map not_of xs))
+vector_negated : (b : Bounds) (xs : List Logic) → negated NineValued (values b xs) ≡ vector (map not_of xs)
 vector_negated b xs = ap (λ g. g >>= λ ys. result_array NineValued b (map not_of ys)) (values_read b xs) ∙ vector_made b (map not_of xs)
 
-not_each : (f : Logic → Logic) (xs : List Logic) → Ok (vector (map (λ x. not_of (f x)) xs)) ≡ negated NineValued (vector (map f xs))
-not_each f xs = ap (λ ys. Ok (vector ys)) (sym (mapped_twice not_of f xs)) ∙ sym (vector_negated (from_one (length (map f xs))) (map f xs))
+negated_by_length : (too_long : Bool) (ys : List Logic) → nat_lt 2147483647 (length ys) ≡ too_long
+    → (((if too_long then Err Index else Ok (from_one (length ys))) >>= λ b. Ok (values b ys)) >>= negated NineValued) ≡ vector (map not_of ys)
+negated_by_length true ys h =
+    sym (ap (λ u. (if u then Err Index else Ok (from_one (length (map not_of ys)))) >>= λ b. Ok (values b (map not_of ys))) (ap (nat_lt 2147483647) (length-map ys not_of) ∙ h))
+negated_by_length false ys h = vector_negated (from_one (length ys)) ys
 
-pub vs_are : (j : Junction) (b : Bounds) (xs : List Logic) (y : Logic) → logical (operator_of j) NineValued (values b xs) (value y) ≡ Ok (vd_vs j xs y)
+not_each : (f : Logic → Logic) (xs : List Logic) → vector (map (λ x. not_of (f x)) xs) ≡ (vector (map f xs) >>= negated NineValued)
+not_each f xs = ap vector (sym (mapped_twice not_of f xs)) ∙ sym (negated_by_length (nat_lt 2147483647 (length (map f xs))) (map f xs) refl)
+
+pub vs_are : (j : Junction) (b : Bounds) (xs : List Logic) (y : Logic) → logical (operator_of j) NineValued (values b xs) (value y) ≡ vd_vs j xs y
 vs_are j b xs y = values_each (operator_of j) b xs y (λ x. of_values j x y) (λ x. pair_joined j x y)
 
-pub sv_are : (j : Junction) (x : Logic) (b : Bounds) (ys : List Logic) → logical (operator_of j) NineValued (value x) (values b ys) ≡ Ok (vd_sv j x ys)
+pub sv_are : (j : Junction) (x : Logic) (b : Bounds) (ys : List Logic) → logical (operator_of j) NineValued (value x) (values b ys) ≡ vd_sv j x ys
 sv_are j x b ys = value_each (operator_of j) x b ys (λ y. of_values j x y) (λ y. pair_joined j x y)
 
-pub denied_vs : (j : Junction) (b : Bounds) (xs : List Logic) (y : Logic) → logical (denied j) NineValued (values b xs) (value y) ≡ negated NineValued (vd_vs j xs y)
+pub denied_vs : (j : Junction) (b : Bounds) (xs : List Logic) (y : Logic) → logical (denied j) NineValued (values b xs) (value y) ≡ (vd_vs j xs y >>= negated NineValued)
 denied_vs j b xs y = values_each (denied j) b xs y (λ x. not_of (of_values j x y)) (λ x. pair_denied j x y) ∙ not_each (λ x. of_values j x y) xs
 
-pub denied_sv : (j : Junction) (x : Logic) (b : Bounds) (ys : List Logic) → logical (denied j) NineValued (value x) (values b ys) ≡ negated NineValued (vd_sv j x ys)
+pub denied_sv : (j : Junction) (x : Logic) (b : Bounds) (ys : List Logic) → logical (denied j) NineValued (value x) (values b ys) ≡ (vd_sv j x ys >>= negated NineValued)
 denied_sv j x b ys = value_each (denied j) x b ys (λ y. not_of (of_values j x y)) (λ y. pair_denied j x y) ∙ not_each (λ y. of_values j x y) ys
 
 mapped_bits : (g : Logic → Logic) (f : Bool → Bool) → ((x : Bool) → g (of_bool x) ≡ of_bool (f x)) → (xs : List Bool) → map g (map of_bool xs) ≡ map of_bool (map f xs)
@@ -627,25 +645,25 @@ listed (y ∷ ys) (suc n) f h g =
     (λ i. g 0 some i ∷ rest i)
 
 moved_so : (o : ShiftOperator) (n : ℤ) (b : Bounds) (xs : List Logic) (f : ℕ → Logic) → ((k : ℕ) → k < length xs → get_or (shifted o n xs) k Zero ≡ f k) →
-    shift o NineValued (values b xs) n ≡ Ok (vector (by_places (length xs) f))
+    shift o NineValued (values b xs) n ≡ vector (by_places (length xs) f)
 moved_so o n b xs f h =
     ap (λ g. g >>= λ ys. result_array NineValued b (shifted o n ys)) (values_read b xs)
     ∙ vector_made b (shifted o n xs)
-    ∙ ap (λ ys. Ok (vector ys)) (listed (shifted o n xs) (length xs) f (shifts_long o n xs) h)
+    ∙ ap vector (listed (shifted o n xs) (length xs) f (shifts_long o n xs) h)
 
-pub sll_is : (b : Bounds) (xs : List Logic) (n : ℤ) → shift LogicalLeft NineValued (values b xs) n ≡ Ok (moved from_right from_left xs n)
+pub sll_is : (b : Bounds) (xs : List Logic) (n : ℤ) → shift LogicalLeft NineValued (values b xs) n ≡ moved from_right from_left xs n
 sll_is b xs (pos n) = moved_so LogicalLeft (pos n) b xs (from_right n xs) (λ k h. shifts_left n xs k h)
 sll_is b xs (negsuc n) = moved_so LogicalLeft (negsuc n) b xs (from_left (suc n) xs) (λ k h. shifts_right (suc n) xs k h)
 
-pub srl_is : (b : Bounds) (xs : List Logic) (n : ℤ) → shift LogicalRight NineValued (values b xs) n ≡ Ok (moved from_left from_right xs n)
+pub srl_is : (b : Bounds) (xs : List Logic) (n : ℤ) → shift LogicalRight NineValued (values b xs) n ≡ moved from_left from_right xs n
 srl_is b xs (pos n) = moved_so LogicalRight (pos n) b xs (from_left n xs) (λ k h. shifts_right n xs k h)
 srl_is b xs (negsuc n) = moved_so LogicalRight (negsuc n) b xs (from_right (suc n) xs) (λ k h. shifts_left (suc n) xs k h)
 
-pub rol_is : (b : Bounds) (xs : List Logic) (n : ℤ) → shift RotateLeft NineValued (values b xs) n ≡ Ok (moved round_left round_right xs n)
+pub rol_is : (b : Bounds) (xs : List Logic) (n : ℤ) → shift RotateLeft NineValued (values b xs) n ≡ moved round_left round_right xs n
 rol_is b xs (pos n) = moved_so RotateLeft (pos n) b xs (round_left n xs) (λ k h. rotations_left n xs k h)
 rol_is b xs (negsuc n) = moved_so RotateLeft (negsuc n) b xs (round_right (suc n) xs) (λ k h. rotations_right (suc n) xs k h)
 
-pub ror_is : (b : Bounds) (xs : List Logic) (n : ℤ) → shift RotateRight NineValued (values b xs) n ≡ Ok (moved round_right round_left xs n)
+pub ror_is : (b : Bounds) (xs : List Logic) (n : ℤ) → shift RotateRight NineValued (values b xs) n ≡ moved round_right round_left xs n
 ror_is b xs (pos n) = moved_so RotateRight (pos n) b xs (round_right n xs) (λ k h. rotations_right n xs k h)
 ror_is b xs (negsuc n) = moved_so RotateRight (negsuc n) b xs (round_left (suc n) xs) (λ k h. rotations_left (suc n) xs k h)
 

@@ -9,7 +9,7 @@ use Rattle.vd_values.specs.declared.logic.Logic.TheVariants.{U, X, Zero, One, L,
 use Rattle.vd_values.specs.LogicTables.{column_of, and_of, or_of, xor_of}
 use Rattle.vd_composites.specs.declared.ranges.Bounds.{Bounds}
 use Rattle.vd_composites.specs.Stops.{OrStop, ◌>>=◌}
-use Rattle.vd_composites.specs.Ranges.{length_of, from_one}
+use Rattle.vd_composites.specs.Ranges.{length_of}
 use Rattle.vd_composites.specs.Composites.{Value, Array}
 use Rattle.vd_composites.specs.Composites.{One as OneValue}
 use Rattle.vd_composites.specs.Vectors.{literals}
@@ -19,7 +19,7 @@ use Rattle.vd_vectors.specs.declared.logical.LogicalOperator.TheVariants.{And, O
 use Rattle.vd_vectors.specs.declared.shifts.ShiftOperator.TheVariants.{LogicalLeft, LogicalRight, RotateLeft, RotateRight}
 use Rattle.vd_vectors.specs.declared.orders.Relation.{Relation}
 use Rattle.vd_vectors.specs.declared.orders.Relation.TheVariants.{IsLess, IsAtMost, IsGreater, IsAtLeast}
-use Rattle.vd_vectors.specs.Logics.{truth}
+use Rattle.vd_vectors.specs.Logics.{bounds_from_one, truth}
 use Rattle.vd_vectors.specs.Logical.{logical, negated, reduction}
 use Rattle.vd_vectors.specs.Shifts.{shift}
 use Rattle.vd_vectors.specs.Matching.{matches, condition}
@@ -45,9 +45,9 @@ bits b xs = Array b (literals (map number_of xs))
 abbrev pub values : Bounds → List Logic → Value Scalar
 values b xs = Array b (literals (map column_of xs))
 
--- Results that are vectors of STD_ULOGIC have the bounds 1 to n; those of BIT have the bounds of the argument.
-abbrev pub vector : List Logic → Value Scalar
-vector xs = values (from_one (length xs)) xs
+-- Results that are vectors of STD_ULOGIC have the bounds 1 to n, where these belong to the index subtype; those of BIT have the bounds of the argument.
+abbrev pub vector : List Logic → OrStop (Value Scalar)
+vector xs = bounds_from_one (length xs) >>= λ b. Ok (values b xs)
 
 -- ---- vd_cond
 
@@ -159,10 +159,10 @@ abbrev pub vd_bit_reduction : Junction → List Bool → Value Scalar
 vd_bit_reduction j xs = bit (taken_together (of_bits j) (of_none j) xs)
 
 -- vd_and_vs, vd_or_vs and vd_xor_vs; vd_and_sv, vd_or_sv and vd_xor_sv
-abbrev pub vd_vs : Junction → List Logic → Logic → Value Scalar
+abbrev pub vd_vs : Junction → List Logic → Logic → OrStop (Value Scalar)
 vd_vs j xs y = vector (map (λ x. of_values j x y) xs)
 
-abbrev pub vd_sv : Junction → Logic → List Logic → Value Scalar
+abbrev pub vd_sv : Junction → Logic → List Logic → OrStop (Value Scalar)
 vd_sv j x ys = vector (map (λ y. of_values j x y) ys)
 
 -- vd_band_vs, vd_bor_vs and vd_bxor_vs; vd_band_sv, vd_bor_sv and vd_bxor_sv
@@ -193,20 +193,20 @@ by_places zero f = []
 by_places (suc n) f = f 0 ∷ by_places n (λ place. f (suc place))
 
 -- A result has as many elements as the argument. By a negative count the elements move the other way, by its size.
-abbrev pub moved : (ℕ → List Logic → ℕ → Logic) → (ℕ → List Logic → ℕ → Logic) → List Logic → ℤ → Value Scalar
+abbrev pub moved : (ℕ → List Logic → ℕ → Logic) → (ℕ → List Logic → ℕ → Logic) → List Logic → ℤ → OrStop (Value Scalar)
 moved forth back xs (pos n) = vector (by_places (length xs) (forth n xs))
 moved forth back xs (negsuc n) = vector (by_places (length xs) (back (suc n) xs))
 
-abbrev pub vd_sll : List Logic → ℤ → Value Scalar
+abbrev pub vd_sll : List Logic → ℤ → OrStop (Value Scalar)
 vd_sll xs n = moved from_right from_left xs n
 
-abbrev pub vd_srl : List Logic → ℤ → Value Scalar
+abbrev pub vd_srl : List Logic → ℤ → OrStop (Value Scalar)
 vd_srl xs n = moved from_left from_right xs n
 
-abbrev pub vd_rol : List Logic → ℤ → Value Scalar
+abbrev pub vd_rol : List Logic → ℤ → OrStop (Value Scalar)
 vd_rol xs n = moved round_left round_right xs n
 
-abbrev pub vd_ror : List Logic → ℤ → Value Scalar
+abbrev pub vd_ror : List Logic → ℤ → OrStop (Value Scalar)
 vd_ror xs n = moved round_right round_left xs n
 
 -- ---- vd_dash, for which there is no operator
@@ -231,14 +231,14 @@ pub record SupportGivesOperators : Type 0 where
   pub comparisons : (o : Relation) (l r : Bool) → matching_ordered o (bit l) (bit r) ≡ Ok (vd_comparison o l r)
   pub reductions : (j : Junction) (b : Bounds) (xs : List Logic) → reduction (operator_of j) NineValued (values b xs) ≡ Ok (vd_reduction j xs)
   pub bit_reductions : (j : Junction) (b : Bounds) (xs : List Bool) → reduction (operator_of j) TwoValued (bits b xs) ≡ Ok (vd_bit_reduction j xs)
-  pub vector_and_value : (j : Junction) (b : Bounds) (xs : List Logic) (y : Logic) → logical (operator_of j) NineValued (values b xs) (value y) ≡ Ok (vd_vs j xs y)
-  pub value_and_vector : (j : Junction) (x : Logic) (b : Bounds) (ys : List Logic) → logical (operator_of j) NineValued (value x) (values b ys) ≡ Ok (vd_sv j x ys)
+  pub vector_and_value : (j : Junction) (b : Bounds) (xs : List Logic) (y : Logic) → logical (operator_of j) NineValued (values b xs) (value y) ≡ vd_vs j xs y
+  pub value_and_vector : (j : Junction) (x : Logic) (b : Bounds) (ys : List Logic) → logical (operator_of j) NineValued (value x) (values b ys) ≡ vd_sv j x ys
   pub bit_vector_and_bit : (j : Junction) (b : Bounds) (xs : List Bool) (y : Bool) → length xs ≡ length_of b → logical (operator_of j) TwoValued (bits b xs) (bit y) ≡ Ok (vd_bvs j b xs y)
   pub bit_and_bit_vector : (j : Junction) (x : Bool) (b : Bounds) (ys : List Bool) → length ys ≡ length_of b → logical (operator_of j) TwoValued (bit x) (bits b ys) ≡ Ok (vd_bsv j x b ys)
-  pub left_shifts : (b : Bounds) (xs : List Logic) (n : ℤ) → shift LogicalLeft NineValued (values b xs) n ≡ Ok (vd_sll xs n)
-  pub right_shifts : (b : Bounds) (xs : List Logic) (n : ℤ) → shift LogicalRight NineValued (values b xs) n ≡ Ok (vd_srl xs n)
-  pub left_rotations : (b : Bounds) (xs : List Logic) (n : ℤ) → shift RotateLeft NineValued (values b xs) n ≡ Ok (vd_rol xs n)
-  pub right_rotations : (b : Bounds) (xs : List Logic) (n : ℤ) → shift RotateRight NineValued (values b xs) n ≡ Ok (vd_ror xs n)
+  pub left_shifts : (b : Bounds) (xs : List Logic) (n : ℤ) → shift LogicalLeft NineValued (values b xs) n ≡ vd_sll xs n
+  pub right_shifts : (b : Bounds) (xs : List Logic) (n : ℤ) → shift LogicalRight NineValued (values b xs) n ≡ vd_srl xs n
+  pub left_rotations : (b : Bounds) (xs : List Logic) (n : ℤ) → shift RotateLeft NineValued (values b xs) n ≡ vd_rol xs n
+  pub right_rotations : (b : Bounds) (xs : List Logic) (n : ℤ) → shift RotateRight NineValued (values b xs) n ≡ vd_ror xs n
   pub dashes : (xs : List Logic) → (has_dash xs ≡ true) ↔ SomeIndex xs (λ place. slice_index_or xs place U ≡ Dash)
 
 -- `?/=`, and `nand`, `nor` and `xnor` of an array or of an array and a scalar, are `not` of what the functions give.
@@ -249,7 +249,7 @@ pub record DeniedBySupport : Type 0 where
   pub unequal_bit_vectors : (b c : Bounds) (xs ys : List Bool) → matches false TwoValued (bits b xs) (bits c ys) ≡ (vd_eqbv xs ys >>= negated TwoValued)
   pub reductions : (j : Junction) (b : Bounds) (xs : List Logic) → reduction (denied j) NineValued (values b xs) ≡ negated NineValued (vd_reduction j xs)
   pub bit_reductions : (j : Junction) (b : Bounds) (xs : List Bool) → reduction (denied j) TwoValued (bits b xs) ≡ negated TwoValued (vd_bit_reduction j xs)
-  pub vector_and_value : (j : Junction) (b : Bounds) (xs : List Logic) (y : Logic) → logical (denied j) NineValued (values b xs) (value y) ≡ negated NineValued (vd_vs j xs y)
-  pub value_and_vector : (j : Junction) (x : Logic) (b : Bounds) (ys : List Logic) → logical (denied j) NineValued (value x) (values b ys) ≡ negated NineValued (vd_sv j x ys)
+  pub vector_and_value : (j : Junction) (b : Bounds) (xs : List Logic) (y : Logic) → logical (denied j) NineValued (values b xs) (value y) ≡ (vd_vs j xs y >>= negated NineValued)
+  pub value_and_vector : (j : Junction) (x : Logic) (b : Bounds) (ys : List Logic) → logical (denied j) NineValued (value x) (values b ys) ≡ (vd_sv j x ys >>= negated NineValued)
   pub bit_vector_and_bit : (j : Junction) (b : Bounds) (xs : List Bool) (y : Bool) → length xs ≡ length_of b → logical (denied j) TwoValued (bits b xs) (bit y) ≡ negated TwoValued (vd_bvs j b xs y)
   pub bit_and_bit_vector : (j : Junction) (x : Bool) (b : Bounds) (ys : List Bool) → length ys ≡ length_of b → logical (denied j) TwoValued (bit x) (bits b ys) ≡ negated TwoValued (vd_bsv j x b ys)

@@ -2,8 +2,8 @@
 
 ghost use Rattle.std.specs.Prelude.{◌≡◌, IfOk, Ok, map};
 ghost use Rattle.vd_composites.specs.Answers.{Answers, ListAnswers};
-ghost use Rattle.vd_composites.specs.Vectors.{discrete_position};
-ghost use Rattle.vd_vectors.specs.Logics.{logic_array, logic_at, logic_in, logic_value, logics_at, logics_in, position_in, result_array, result_bounds, truth};
+ghost use Rattle.vd_composites.specs.Vectors.{literal_position};
+ghost use Rattle.vd_vectors.specs.Logics.{bounds_from_one as defined_from_one, logic_array, logic_at, logic_in, logic_value, logics_at, logics_in, position_in, result_array, result_bounds, truth};
 
 use std::alloc::{AllocError, Global};
 use vd_composites::{Bounds, Value, ValueEnd};
@@ -61,14 +61,13 @@ pub fn position_of(of: LogicType, value: Logic) -> u8
     }
 }
 
-/// The position of a discrete value.
+/// The position of a literal in its type.
 fn position_in_type(scalar: Scalar) -> Result<i64, StopKind>
-    ensures { result ≡ discrete_position scalar }
+    ensures { result ≡ literal_position scalar }
 {
     match scalar {
-        Scalar::Integer(x) => Ok(i64::from(x)),
         Scalar::Literal(position) => Ok(i64::from(position)),
-        Scalar::Time(_) => Err(StopKind::Range),
+        Scalar::Integer(_) | Scalar::Time(_) => Err(StopKind::Range),
     }
 }
 
@@ -109,7 +108,7 @@ pub fn as_logic(of: LogicType, value: &Value) -> Result<Logic, StopKind>
 pub fn as_logics(alloc: Global, of: LogicType, value: &Value) -> Result<Vec<Logic>, ValueEnd>
     ensures { ListAnswers result (logics_in of value.now) }
 {
-    match value.positions(alloc) {
+    match value.literal_positions(alloc) {
         Err(end) => Err(end),
         Ok(positions) => literals_at(alloc, of, &positions),
     }
@@ -162,17 +161,27 @@ fn of_logics(
     }
 }
 
+/// The bounds 1 to n of an array whose index subtype is NATURAL or POSITIVE, unless they leave it.
+pub fn bounds_from_one(count: usize) -> Result<Bounds, StopKind>
+    ensures { result ≡ defined_from_one count }
+{
+    if count > 2_147_483_647 {
+        return Err(StopKind::Index);
+    }
+    Ok(Bounds {
+        left: 1,
+        right: count as i64,
+        down: false,
+    })
+}
+
 /// The bounds of an operator's result.
-fn bounds_of(of: LogicType, bounds: Bounds, count: u32) -> Bounds
+fn bounds_of(of: LogicType, bounds: Bounds, count: usize) -> Result<Bounds, StopKind>
     ensures { result ≡ result_bounds of bounds count }
 {
     match of {
-        LogicType::TwoValued => bounds,
-        LogicType::NineValued => Bounds {
-            left: 1,
-            right: i64::from(count),
-            down: false,
-        },
+        LogicType::TwoValued => Ok(bounds),
+        LogicType::NineValued => bounds_from_one(count),
     }
 }
 
@@ -185,8 +194,8 @@ pub fn result_of(
 ) -> Result<Value, ValueEnd>
     ensures { Answers result (result_array of bounds values.now) }
 {
-    let Ok(count) = u32::try_from(values.len()) else {
-        return Err(ValueEnd::Memory);
-    };
-    of_logics(alloc, of, bounds_of(of, bounds, count), values)
+    match bounds_of(of, bounds, values.len()) {
+        Ok(own) => of_logics(alloc, of, own, values),
+        Err(kind) => Err(ValueEnd::Stop(kind)),
+    }
 }

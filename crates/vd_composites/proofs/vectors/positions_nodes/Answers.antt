@@ -7,4 +7,4 @@ use Rattle.vd_composites.proofs.vectors.positions_nodes.Goals as goal
 pub returns : goal.returns
 returns c =
     let a = is_array c.args.nodes.now c.in-Some._bounds c.requires (sym c.bounds_at.ensures ∙ c.in-Some.is) in
-    subst (ListAnswers c.positions_behind.result) (sym (array_positions c.args.nodes.now c.in-Some._bounds a)) c.positions_behind.ensures
+    subst (ListAnswers c.positions_behind.result) (sym (array_positions c.args.of c.args.nodes.now c.in-Some._bounds a)) c.positions_behind.ensures
