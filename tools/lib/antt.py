@@ -120,6 +120,13 @@ def flat_map(f, xs):
     out = []
     for x in plist(xs): out += plist(ap(f, x))
     return alist(out)
+def join_with(c, xs):
+    out = []
+    for i, x in enumerate(plist(xs)): out += ([c] if i else []) + plist(x)
+    return alist(out)
+def digit_glyph(upper, d):
+    d = F(d)
+    return 48 + d if d < 10 else (55 + d if F(upper) else 87 + d)
 def position(f, xs):
     for i, x in enumerate(plist(xs)):
         if F(ap(f, x)): return some(i)
@@ -147,6 +154,7 @@ NAT = {
  'option_and_then': Fn(2, lambda o, f: ap(f, F(o)[1]) if F(o)[0] == 'Some' else NONE),
  'flat_map': Fn(2, flat_map), 'reverse': Fn(1, lambda xs: alist(plist(xs)[::-1])), 'position': Fn(2, position),
  'set': Fn(3, lambda xs, n, y: alist([y if i == F(n) else x for i, x in enumerate(plist(xs))])), 'replicate': Fn(2, lambda n, x: alist([x] * F(n))),
+ 'slice_set': Fn(3, lambda xs, n, y: alist([y if i == F(n) else x for i, x in enumerate(plist(xs))])), 'join_with_byte': Fn(2, join_with), 'digit_glyph': Fn(2, digit_glyph),
  'is_utf8': Fn(1, lambda xs: is_utf8([F(x) for x in plist(xs)])),
  'filter_map': Fn(2, lambda f, xs: alist([F(o[1]) for o in (F(ap(f, x)) for x in plist(xs)) if o[0] == 'Some'])),
  'str_to_ascii_lowercase': Fn(1, lambda xs: alist([(lambda c: c + 32 if 65 <= c <= 90 else c)(F(x)) for x in plist(xs)])), 'str_eq_ignore_ascii_case': Fn(2, lambda a, b: bytes(F(x) for x in plist(a)).lower() == bytes(F(x) for x in plist(b)).lower()),

@@ -2,7 +2,5 @@
 #![tactic(auto)]
 
 pub mod file_tray;
-#[cfg(test)]
-mod tests;
 
 pub use file_tray::FileTray;

@@ -1,9 +1,4 @@
-//! The first language across its crates: a worked example from the definitions alone, and tests of runs of its texts.
+//! A worked example of the first language, from the definitions alone.
 #![tactic(auto)]
 
 pub mod example;
-#[cfg(test)]
-mod run_limits;
-#[cfg(test)]
-mod runs;
-pub mod texts;

@@ -3,15 +3,13 @@
 use Rattle.std.specs.Prelude.{◌≡◌, ℕ, List, [], ◌∷◌, ◌++◌, map, Option, Some, Ok, Err, IsTrue, Contains, bytes_eq, if◌then◌else◌}
 use Rattle.vd_values.specs.declared.scalar.Scalar.{Scalar}
 use Rattle.vd_trees.specs.declared.revision.Revision.{Revision}
-use Rattle.vd_trees.specs.declared.revision.Revision.TheVariants.{V2019, V1993}
-use Rattle.vd_trees.specs.declared.rows.Row.{Row}
 use Rattle.vd_composites.specs.Composites.{Value}
 use Rattle.vd_resolved.specs.Trees.{ResolvedTree}
 use Rattle.vd_environments.specs.Got.{Got}
 use Rattle.vd_environments.specs.Environments.{Argument, Denotation, Env}
 use Rattle.vd_meaning.specs.Building.{Built, State}
 use Rattle.vd_meaning.specs.Elaborations.{units_of, hierarchy_of, beginning, with_packages}
-use Rattle.vd_maps.specs.Joins.{map_of}
+use Rattle.vd_maps.specs.Joins.{Joining}
 use Rattle.vd_maps.specs.SameRuns.{EndAlike}
 use Rattle.vd_maps.specs.Interfaces.{Kind, Type', Subtype', Constant', Function', Item, UnitInterface, OfEntity, OfArchitecture, OfPackage, interface_of, keeps_item}
 
@@ -49,16 +47,17 @@ items_shown name (OfEntity own generics ports ∷ us) = items_shown name us
 items_shown name (OfArchitecture own entity ∷ us) = items_shown name us
 
 -- What a package declares means what it means that stands for it in the package of that name.
-pub record ValuesAreKept (names : ℕ → List ℕ) (rows : List Row) (tree19 tree93 : ResolvedTree) (e f : Env) : Type 0 where
-  pub kept : (package_name : List ℕ) (a b : Item) → Contains (items_shown package_name (interface_of tree19)) a → Contains (items_shown package_name (interface_of tree93)) b
-      → IsTrue (keeps_item names rows a b) → KeepsMeaning e f a.kind a.number b.number
+pub record ValuesAreKept (names : ℕ → List ℕ) (by : Joining) (left right : ResolvedTree) (e f : Env) : Type 0 where
+  pub kept : (package_name : List ℕ) (a b : Item) → Contains (items_shown package_name (interface_of left)) a → Contains (items_shown package_name (interface_of right)) b
+      → IsTrue (keeps_item names by.rows a b) → KeepsMeaning e f a.kind a.number b.number
 
 -- or both evaluations end alike
-abbrev pub SamePackages : (ℕ → List ℕ) → List Row → ResolvedTree → ResolvedTree → Built State → Built State → Type 0
-SamePackages names rows tree19 tree93 (Ok s) (Ok t) = ValuesAreKept names rows tree19 tree93 s.env t.env
-SamePackages names rows tree19 tree93 (Ok s) (Err g) = ⊥
-SamePackages names rows tree19 tree93 (Err f) (Ok t) = ⊥
-SamePackages names rows tree19 tree93 (Err f) (Err g) = EndAlike (map_of rows) f g
+abbrev pub SamePackages : (ℕ → List ℕ) → Joining → ResolvedTree → ResolvedTree → Built State → Built State → Type 0
+SamePackages names by left right (Ok s) (Ok t) = ValuesAreKept names by left right s.env t.env
+SamePackages names by left right (Ok s) (Err g) = ⊥
+SamePackages names by left right (Err f) (Ok t) = ⊥
+SamePackages names by left right (Err f) (Err g) = EndAlike by f g
 
-pub record PackagesAreKept (names : ℕ → List ℕ) (rows : List Row) (tree19 tree93 : ResolvedTree) : Type 0 where
-  pub kept : SamePackages names rows tree19 tree93 (packages_elaborated V2019 tree19) (packages_elaborated V1993 tree93)
+-- Two trees, each of its revision: a design and what is written from it, or the design before a pass and the one behind it.
+pub record PackagesAreKept (names : ℕ → List ℕ) (by : Joining) (r s : Revision) (left right : ResolvedTree) : Type 0 where
+  pub kept : SamePackages names by left right (packages_elaborated r left) (packages_elaborated s right)

@@ -34,7 +34,7 @@ use Rattle.vd_meaning_laws.specs.ElaborationAgreement.{element_mode_in, element_
 use Rattle.vd_meaning_laws.proofs.Built.{built_then, evaluated_then, counted_alike, signal_alike, processes_alike}
 use Rattle.vd_meaning_laws.proofs.Interfaces.{constant_agrees, value_agreed}
 use Rattle.vd_meaning_laws.proofs.Associating.{left_alike}
-use Rattle.vd_meaning_laws.proofs.ElaborationFacing
+use Rattle.vd_meaning_laws.proofs.ElaborationFacing as Facing
 
 module _ (l : Link) (numbers : IsApart l) where
   abbrev PartsAlike : List Part → List Part → Type 0

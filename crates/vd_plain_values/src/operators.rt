@@ -14,13 +14,13 @@ ghost use Rattle.vd_plain_values.specs.Operands.{AreArguments, AreFound, all_fou
 use crate::answers::settled;
 use crate::environment::{ArrayHead, Entry, array_head, subtype_of};
 use std::alloc::{AllocError, Global};
-use vd_composites::{Bounds, Value, ValueEnd};
+use vd_composites::{Value, ValueEnd};
 use vd_declarations::TypeId;
 use vd_operations::Operation;
 use vd_operators::{BinaryOp, Op, apply};
 use vd_subtypes::OperandKind;
 use vd_values::{Logic, Scalar, StopKind};
-use vd_vectors::logics::{as_logic, of_truth};
+use vd_vectors::logics::{as_logic, bounds_from_one, of_truth};
 use vd_vectors::{LogicType, LogicalOperator, logical_operation};
 
 /// The values of all operands, or the first stop.
@@ -135,15 +135,10 @@ fn join(
 pub fn text(alloc: Global, codes: &[u8]) -> Result<Value, ValueEnd>
     ensures { Answers result (text_of codes.now) }
 {
-    let Ok(length) = i64::try_from(codes.len()) else {
-        return Err(ValueEnd::Memory);
-    };
-    let bounds = Bounds {
-        left: 1,
-        right: length,
-        down: false,
-    };
-    Value::of_literals(alloc, bounds, codes)
+    match bounds_from_one(codes.len()) {
+        Ok(bounds) => Value::of_literals(alloc, bounds, codes),
+        Err(kind) => Err(ValueEnd::Stop(kind)),
+    }
 }
 
 /// A value of BOOLEAN.

@@ -7,8 +7,6 @@ mod lines;
 pub mod performing;
 pub mod reading;
 pub mod task;
-#[cfg(test)]
-mod tests;
 mod writing;
 
 pub use contents::Contents;

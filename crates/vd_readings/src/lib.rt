@@ -7,8 +7,6 @@ pub mod laws;
 mod memo;
 pub mod reading;
 mod search;
-#[cfg(test)]
-mod tests;
 mod trials;
 
 pub use found::Found;

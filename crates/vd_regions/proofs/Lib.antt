@@ -8,6 +8,7 @@ pub mod MemberLemmas
 pub mod OrderLemmas
 pub mod PlaceLemmas
 pub mod ProfileLemmas
+pub mod RunLemmas
 pub mod SortLemmas
 pub mod SpaceLemmas
 pub mod VisibleLemmas

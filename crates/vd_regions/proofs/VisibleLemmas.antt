@@ -52,7 +52,7 @@ not_false true e = absurd (true≢false (sym e))
 not_false false e = refl
 
 module _ (s : Scopes) (name : List ℕ) where
-  from_entered : (region k : ℕ) → Contains (entered_in s region name) k → IsEntered s region name k
+  pub from_entered : (region k : ℕ) → Contains (entered_in s region name) k → IsEntered s region name k
   from_entered region k c =
       let found = from_entered_below (stands_in region name) s.entered (length s.entered) k c in
       let parts = and_parts _ _ found.1 in

@@ -1,3 +1,4 @@
+pub mod Runs
 pub mod Scopes
 pub mod Homographs
 pub mod Visible

@@ -40,11 +40,13 @@ pub(crate) struct Note {
     pub(crate) grown: Table,
 }
 
-/// A region: the one round it, the one that it continues, whether its end is reached, and its use clauses.
+/// A region: the one round it, the one that it continues, whether its end is reached, and its use clauses; and where its run begins. In a
+/// run each region but the first stands in the one before it and continues none, as where units nest behind references to contexts.
 #[derive(Drop)]
 pub(crate) struct Space {
     pub(crate) outer: u32,
     pub(crate) continues: Option<u32>,
     pub(crate) closed: bool,
     pub(crate) uses: UseClauses,
+    pub(crate) run: u32,
 }

@@ -396,7 +396,7 @@ impl Regions {
     }
 
     /// Whether all of these are overloadable.
-    fn are_overloadable(&self, some: &[u32]) -> bool
+    pub(crate) fn are_overloadable(&self, some: &[u32]) -> bool
         ensures { result ≡ list_all (λ k. is_overloadable (declaration_at self.now k).class) some.now }
     {
         for number in some {

@@ -8,6 +8,7 @@ pub mod entries;
 mod finding;
 pub mod laws;
 pub mod regions;
+mod runs;
 mod tables;
 
 pub use regions::{EnterEnd, Regions};

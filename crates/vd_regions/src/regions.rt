@@ -12,12 +12,13 @@ ghost use Rattle.vd_regions.specs.InOrder.{visible_in, selected_in_order};
 use crate::catalog::Catalog;
 use crate::clauses::{UseClause, UseClauses};
 use crate::entries::{Entered, Space};
+use crate::runs::run_of;
 use std::alloc::{AllocError, Global};
 use std::marker::Model;
 use vd_bytes::Text;
 use vd_declarations::{DeclId, Declaration, RegionId};
 use vd_region_tables::key_of;
-use vd_region_tables::numbers::{narrow, put_in_order};
+use vd_region_tables::numbers::narrow;
 
 /// Regions inside one another, the declarations in them, and their use clauses. Numbers of regions and declarations are never
 /// given back.
@@ -32,10 +33,14 @@ impl Model for Regions {
     ghost use Rattle.std.specs.Prelude.{map};
     ghost use Rattle.vd_regions.specs.Scopes.{Scopes};
     ghost use Rattle.vd_regions.specs.Links.{region_of};
+    ghost use Rattle.vd_regions.specs.Runs.{AreRuns};
 
     ghost Value = { Scopes };
 
     ghost view = { λ a. record { entered = a.catalog; regions = map region_of a.spaces.items } };
+
+    // Each region's run is one.
+    ghost invariant = { λ a. AreRuns a.spaces.items };
 }
 
 /// Why a declaration wasn't entered.
@@ -80,6 +85,7 @@ impl Regions {
             continues: None,
             closed: false,
             uses: UseClauses::new(alloc),
+            run: 0,
         })?;
         Ok(Regions {
             alloc,
@@ -147,11 +153,13 @@ impl Regions {
         ensures unchanged { OnErr result (self.new ≡ self.old) }
     {
         let region = narrow(self.spaces.len())?;
+        let run = run_of(&self.spaces, region, outer.number(), continues);
         self.spaces.push(Space {
             outer: outer.number(),
             continues,
             closed,
             uses: UseClauses::new(self.alloc),
+            run,
         })?;
         Ok(RegionId::of(region))
     }
@@ -231,15 +239,8 @@ impl Regions {
         ensures all { IfOk result (λ found. (k : ℕ) → Contains found.items k ↔ IsMeant self.now (IsVisible self.now region name.now) k) }
         ensures is { IfOk result (λ found. found.items ≡ visible_in self.now region name.now) }
     {
-        let regions = self.chain(alloc, region.number())?;
-        let mut key = key_of(alloc, 0, name.as_bytes())?;
-        let mut around = Vec::new(alloc);
-        self.add_round(alloc, &mut key, &regions, &mut around)?;
-        let mut given = self.gather_given(alloc, &mut key, &regions)?;
-        put_in_order(&mut given)?;
-        let mut found = Vec::new(alloc);
-        self.add_direct(alloc, &mut key, &regions, &mut found)?;
-        self.add_by_use(&around, &given, &mut found)?;
+        let mut key = key_of(alloc, region.number(), name.as_bytes())?;
+        let found = self.seen(alloc, &mut key)?;
         let ids = self.meant_in_order(alloc, &found)?;
         Ok(ids)
     }

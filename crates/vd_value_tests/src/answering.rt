@@ -1,8 +1,8 @@
 //! Lines `WORDS => ANSWER`, whose answers are compared. `--` begins a comment.
 
 use crate::{
-    calculating, choosing, composing, driving, fielding, indicating, integers, logic, shapes,
-    simulating, times, walkers,
+    calculating, choosing, composing, driving, fielding, indicating, integers, logic, readings,
+    shapes, simulating, times, walkers,
 };
 use anyhow::bail;
 use std::alloc::Global;
@@ -22,6 +22,7 @@ fn answer(alloc: Global, kind: &str, words: &str) -> anyhow::Result<String> {
         "subtypes" => indicating::answer(alloc, words),
         "fields" => fielding::answer(alloc, words),
         "walks" => walkers::answer(alloc, words),
+        "readings" => readings::answer(alloc, words),
         _ => bail!("there is no kind {kind}"),
     }
 }

@@ -6,8 +6,6 @@ mod given;
 mod numbers;
 mod plan;
 pub mod reading;
-#[cfg(test)]
-mod tests;
 
 pub use command::{Command, FileNames, Mode, WordsEnd};
 pub use reading::read_words;

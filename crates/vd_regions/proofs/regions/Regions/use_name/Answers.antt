@@ -1,5 +1,6 @@
-use Rattle.std.proofs.Common.{◌≡◌, ap, ◌++◌, ◌∷◌, [], option_map, ◌∙◌}
+use Rattle.std.proofs.Common.{◌≡◌, refl, ap, ◌++◌, ◌∷◌, [], option_map, ◌∙◌}
 use Rattle.vd_regions.specs.Scopes.{Region}
+use Rattle.vd_regions.proofs.RunLemmas.{runs_written}
 use Rattle.vd_regions.proofs.SpaceLemmas.{written_at, rewritten_at, on_err}
 use Rattle.vd_regions.proofs.regions.Regions.use_name.Goals as goal
 
@@ -22,3 +23,7 @@ returns-in_err-push-clause-unchanged c =
     (ap (λ us. let r : Region = record { outer = c.index_mut.result.now.outer; continues = c.index_mut.result.now.continues; closed = c.index_mut.result.now.closed; uses = us } in r)
     c.in_err-push.ensures.unchanged) in
     on_err c.from_residual-in_err-push.result same
+
+pub invariant_of-self-2 : goal.invariant_of-self-2
+invariant_of-self-2 c =
+    runs_written c.self.inside.spaces.items c.number-2.result c.index_mut.result.now _ c.index_mut.ensures.value refl refl refl c.self.invariant

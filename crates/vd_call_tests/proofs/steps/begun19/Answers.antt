@@ -1,0 +1,9 @@
+use Rattle.std.proofs.Common.{refl, sym, subst, ◌∙◌}
+use Rattle.std.specs.Prelude.{IsSome}
+use Rattle.vd_first_tracing.proofs.RunLemmas.{top_elaborated}
+use Rattle.vd_call_tests.proofs.steps.begun19.Goals as goal
+
+pub elaborate19-requires : goal.elaborate19-requires
+elaborate19-requires c =
+    let e = top_elaborated c.args.design.now c.args.top.now c.in-Ok-Some.top (sym c.in-Ok-Some.ensures ∙ c.in-Ok-Some.field-0-is) in
+    record { top = subst IsSome (sym e.1) refl }
