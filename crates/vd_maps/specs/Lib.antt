@@ -7,6 +7,7 @@ pub mod SameRuns
 pub mod SameTraces
 pub mod Tests
 pub mod Tops
+pub mod TypedValues
 pub mod Units
 pub mod WholeMaps
 pub mod Laws

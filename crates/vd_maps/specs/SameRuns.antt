@@ -11,7 +11,7 @@ use Rattle.vd_environments.specs.Got.{Halt}
 use Rattle.vd_meaning.specs.Building.{ScalarObject, Placed, Made, Failing, Stopped, Limited}
 use Rattle.vd_meaning.specs.Elaborations.{Elaboration, Elaborates, Fails, NoTop, elaboration, model_of, signal_scope}
 use Rattle.vd_maps.specs.Joins.{Joining, joins, scopes_join}
-use Rattle.vd_maps.specs.Tops.{NamedTop, top_in, HasTop}
+use Rattle.vd_maps.specs.Tops.{NamedTop, top_in, HasTop, HasTypedGenerics}
 
 -- ---- signals
 
@@ -66,6 +66,6 @@ HaveSameRunIf there by (Fails f) (Fails g) = EndAlike by f g
 HaveSameRunIf there by NoTop NoTop = there → ⊥
 HaveSameRunIf there by _ _ = ⊥
 
--- Two trees, each of its revision, have the same run for every top, with equal values for its generics.
+-- Two trees, each of its revision, have the same run for every top, with equal values of their types for its generics.
 pub record HaveSameRun (by : Joining) (r s : Revision) (left right : ResolvedTree) : Type 0 where
-  pub for_each : (top : NamedTop) → HaveSameRunIf (HasTop left top) by (elaboration r left (top_in left top)) (elaboration s right (top_in right top))
+  pub for_each : (top : NamedTop) → HasTypedGenerics r left top → HaveSameRunIf (HasTop left top) by (elaboration r left (top_in left top)) (elaboration s right (top_in right top))

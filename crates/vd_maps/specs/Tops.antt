@@ -7,10 +7,13 @@ use Rattle.vd_composites.specs.Composites.{Value}
 use Rattle.vd_forest.specs.Forest.{Forest, text_of, parts_of, next_of, skipped}
 use Rattle.vd_resolved.specs.declared.node.Resolved.{Resolved}
 use Rattle.vd_resolved.specs.Trees.{ResolvedTree}
+use Rattle.vd_trees.specs.declared.revision.Revision.{Revision}
+use Rattle.vd_meaning.specs.Tables.{table}
 use Rattle.vd_meaning.specs.Elaborations.{Top}
 use Rattle.vd_meaning.specs.Hierarchies.{is_wanted}
 use Rattle.vd_maps.specs.Units.{Sort, ArchitectureUnit, Node, units_in, nodes, mark_in, Object, objects_named, objects_of_name}
 use Rattle.vd_maps.specs.Marks.{is_entity, name_of, entities_in}
+use Rattle.vd_maps.specs.TypedValues.{have_values}
 
 -- The generics that are left out have their defaults.
 pub record NamedTop : Type 0 where
@@ -57,3 +60,7 @@ has_architecture top units = list_any (λ (x : Node). is_architecture_of top x.s
 
 abbrev pub HasTop : ResolvedTree → NamedTop → Type 0
 HasTop tree top = IsTrue (has_entity top.entity (units_in tree.units)) × IsTrue (has_architecture top (units_in tree.units))
+
+-- what is given to the generics are values of their types
+abbrev pub HasTypedGenerics : Revision → ResolvedTree → NamedTop → Type 0
+HasTypedGenerics r tree top = IsTrue (have_values tree.declarations (table r tree.declarations) (top_in tree top).generics)

@@ -13,7 +13,7 @@ use Rattle.vd_meaning.specs.Elaborations.{Elaboration, Elaborates, Fails, NoTop,
 use Rattle.vd_maps.specs.Joins.{Joining, map_of, object_names, gives_objects}
 use Rattle.vd_maps.specs.Units.{Mark}
 use Rattle.vd_maps.specs.Marks.{marks_of, taken_by}
-use Rattle.vd_maps.specs.Tops.{NamedTop, top_in, HasTop}
+use Rattle.vd_maps.specs.Tops.{NamedTop, top_in, HasTop, HasTypedGenerics}
 use Rattle.vd_maps.specs.SameRuns.{Joins, EndAlike}
 
 -- ---- kinds and modes
@@ -97,9 +97,9 @@ IsWholeIf there rows tree19 tree93 (Fails f) (Fails g) = EndAlike (map_of rows) 
 IsWholeIf there rows tree19 tree93 NoTop NoTop = there → ⊥
 IsWholeIf there rows tree19 tree93 _ _ = ⊥
 
--- the map is whole for every top and all values of its generics
+-- the map is whole for every top and all values that its generics can have
 pub record IsWholeMap (rows : List Row) (tree19 tree93 : ResolvedTree) : Type 0 where
-  pub for_each : (top : NamedTop) → IsWholeIf (HasTop tree19 top) rows tree19 tree93 (elaboration V2019 tree19 (top_in tree19 top)) (elaboration V1993 tree93 (top_in tree93 top))
+  pub for_each : (top : NamedTop) → HasTypedGenerics V2019 tree19 top → IsWholeIf (HasTop tree19 top) rows tree19 tree93 (elaboration V2019 tree19 (top_in tree19 top)) (elaboration V1993 tree93 (top_in tree93 top))
 
 -- ---- a pass: its rows join the two designs signal by signal, or both elaborations end alike
 
@@ -110,4 +110,4 @@ JoinAllIf there by NoTop NoTop = there → ⊥
 JoinAllIf there by _ _ = ⊥
 
 pub record JoinAll (by : Joining) (r s : Revision) (left right : ResolvedTree) : Type 0 where
-  pub for_each : (top : NamedTop) → JoinAllIf (HasTop left top) by (elaboration r left (top_in left top)) (elaboration s right (top_in right top))
+  pub for_each : (top : NamedTop) → HasTypedGenerics r left top → JoinAllIf (HasTop left top) by (elaboration r left (top_in left top)) (elaboration s right (top_in right top))

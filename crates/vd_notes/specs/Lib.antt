@@ -1,0 +1,4 @@
+pub mod Entries
+pub mod Lefts
+pub mod Makers
+pub mod Rows
