@@ -1,0 +1,2 @@
+pub mod TourLemmas
+pub mod WordLemmas

@@ -1,0 +1,15 @@
+use Rattle.std.proofs.Common.{◌≤◌, length}
+use Rattle.vd_forest.specs.Store.{Extends}
+use Rattle.vd_statements.specs.Lists.{AreWithin}
+use Rattle.vd_statements.proofs.lists.Lists.joined.Given as goal
+
+abbrev pub invariant-loop-left : goal.invariant-loop-left
+invariant-loop-left l = record {
+  left_in : l.left ≤ length l.self.lists.items;
+  made_in : l.made ≤ length l.out;
+  lists_in : AreWithin (length l.out) l.self.lists.items;
+  extends : Extends l.fn.out l.out;
+}
+
+abbrev pub decreases-loop-left : goal.decreases-loop-left
+decreases-loop-left l = l.left
