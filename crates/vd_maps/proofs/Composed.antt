@@ -12,7 +12,7 @@ use Rattle.vd_kernel.proofs.OtherJoins.{run_by_join}
 use Rattle.vd_kernel.proofs.AtInputs.{same_run_at_inputs}
 use Rattle.vd_meaning.specs.Building.{ScalarObject, Placed, Made}
 use Rattle.vd_meaning.specs.Elaborations.{shape_of, model_of, signal_scope}
-use Rattle.vd_maps.specs.Joins.{Joining}
+use Rattle.vd_joins.specs.Joins.{Joining}
 use Rattle.vd_maps.specs.SameRuns.{Joins, ScopesJoin, IsSameRun}
 use Rattle.vd_maps.specs.WholeMaps.{HasOne, JoinOneToOne}
 use Rattle.vd_maps.specs.Laws.{Compose, RunsCompose, JoinsCompose}

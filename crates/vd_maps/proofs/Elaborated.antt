@@ -3,7 +3,7 @@ use Rattle.std.proofs.Common.{refl, ◌∙◌}
 use Rattle.vd_trees.specs.declared.paths.Scope.{Scope}
 use Rattle.vd_meaning.specs.Building.{Failing, Stopped, Limited}
 use Rattle.vd_meaning.specs.Elaborations.{Elaborates, Fails, NoTop}
-use Rattle.vd_maps.specs.Joins.{Joining}
+use Rattle.vd_joins.specs.Joins.{Joining}
 use Rattle.vd_maps.specs.SameRuns.{ScopesJoin, EndAlike}
 use Rattle.vd_maps.specs.Laws.{ElaborationsCompose, ElaborationsJoinAll}
 use Rattle.vd_maps.proofs.Composed.{runs_compose, joins_compose}

@@ -11,7 +11,7 @@ use Rattle.vd_kernel.proofs.SameRuns.{same_run}
 use Rattle.vd_kernel.proofs.AtInputs.{same_run_at_inputs}
 use Rattle.vd_meaning.specs.Building.{ScalarObject, Placed, Made}
 use Rattle.vd_meaning.specs.Elaborations.{shape_of, model_of, signal_scope}
-use Rattle.vd_maps.specs.Joins.{Joining, pass_with}
+use Rattle.vd_joins.specs.Joins.{Joining, pass_with}
 use Rattle.vd_maps.specs.SameRuns.{Joined, Joins, ScopesJoin}
 use Rattle.vd_maps.specs.Laws.{JoinsItself, SameDesignHasSameRun, DistinctPathsJoinThemselves, AreSameByNumber, SameNumbersHaveSameRun}
 use Rattle.vd_maps.proofs.Inputs.{inputs_are_inputs, signal_there, shape_count, is_below, EndsBelow, trace_below}

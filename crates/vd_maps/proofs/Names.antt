@@ -7,7 +7,7 @@ use Rattle.vd_trees.specs.declared.paths.PathStep.{PathStep}
 use Rattle.vd_trees.specs.declared.paths.PathStep.TheVariants.{Field, Index}
 use Rattle.vd_trees.specs.Paths.{dotted}
 use Rattle.vd_first_names.specs.Joins.{field_steps}
-use Rattle.vd_maps.specs.Joins.{left_by}
+use Rattle.vd_joins.specs.Joins.{left_by}
 
 -- ---- more names make a longer text
 

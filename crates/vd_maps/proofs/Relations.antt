@@ -9,7 +9,7 @@ use Rattle.vd_trees.specs.declared.rows.Row.{Row}
 use Rattle.vd_trees.specs.Paths.{dotted}
 use Rattle.vd_first_names.specs.Joins.{label_names, JoinsBy}
 use Rattle.vd_first_names.specs.Joins as rows
-use Rattle.vd_maps.specs.Joins.{map_of, levels_join, last_level, same_indexes, is_object, object_names, left_by, leave_same, stands_at, is_row_of, gives_objects, objects_join, joins}
+use Rattle.vd_joins.specs.Joins.{map_of, levels_join, last_level, same_indexes, is_object, object_names, left_by, leave_same, stands_at, is_row_of, gives_objects, objects_join, joins}
 use Rattle.vd_maps.specs.Laws.{JoinsAreThoseOfRows}
 use Rattle.vd_maps.proofs.Names.{left_by_name, takes}
 use Rattle.vd_maps.proofs.Tests.{Found, found, any_there, indexes_decide, steps_decide, levels_decide, object_kind, stands_by, stands_there}

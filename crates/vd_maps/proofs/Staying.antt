@@ -9,7 +9,7 @@ use Rattle.vd_trees.specs.declared.paths.Label.{Label}
 use Rattle.vd_trees.specs.declared.paths.Level.{Level}
 use Rattle.vd_trees.specs.declared.paths.Path.{Path}
 use Rattle.vd_first_names.specs.Joins.{architecture_unit}
-use Rattle.vd_maps.specs.Joins.{pass_with, same_label_index, same_indexes, same_names, same_steps, are_none, labels_join, level_joins, levels_join, last_level, generates_join, joins, scopes_join}
+use Rattle.vd_joins.specs.Joins.{pass_with, same_label_index, same_indexes, same_names, same_steps, are_none, labels_join, level_joins, levels_join, last_level, generates_join, joins, scopes_join}
 use Rattle.vd_maps.specs.Laws.{EqualPathsJoin, EqualScopesJoin}
 use Rattle.vd_maps.proofs.Tests.{label_index_decides, steps_decide}
 

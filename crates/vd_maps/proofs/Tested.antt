@@ -7,7 +7,7 @@ use Rattle.std.specs.List.{list_any, list_all}
 use Rattle.vd_trees.specs.declared.rows.Row.{Row}
 use Rattle.vd_resolved.specs.Trees.{ResolvedTree}
 use Rattle.vd_meaning.specs.Building.{ScalarObject, Made}
-use Rattle.vd_maps.specs.Joins.{Joining, map_of, object_names, gives_objects, joins}
+use Rattle.vd_joins.specs.Joins.{Joining, map_of, object_names, gives_objects, joins}
 use Rattle.vd_maps.specs.Marks.{marks_of, taken_by}
 use Rattle.vd_maps.specs.SameRuns.{Joins}
 use Rattle.vd_maps.specs.WholeMaps.{mode_text, is_kind_of, has_mark, has_kept_mark, IsTrueRow, HasOne}

@@ -18,7 +18,7 @@ use Rattle.vd_trees.specs.declared.rows.RowKind.TheVariants.{Port, Signal, Impli
 use Rattle.vd_trees.specs.declared.rows.RowKind.TheVariants.{Label as LabelRow}
 use Rattle.vd_trees.specs.Paths.{dotted}
 use Rattle.vd_first_names.specs.Joins.{label_names, architecture_unit, object_unit, SameIndexes, HasRow, LabelsJoin, LevelJoins, LevelsJoin, IsLast, IsObject}
-use Rattle.vd_maps.specs.Joins.{map_of, same_index, same_label_index, same_indexes, same_step, same_steps, is_label, is_row_of_labels, gives_labels, are_none, labels_join, level_joins, levels_join, last_level, is_object, stands_at}
+use Rattle.vd_joins.specs.Joins.{map_of, same_index, same_label_index, same_indexes, same_step, same_steps, is_label, is_row_of_labels, gives_labels, are_none, labels_join, level_joins, levels_join, last_level, is_object, stands_at}
 
 -- ---- rows among others
 

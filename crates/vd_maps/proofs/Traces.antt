@@ -7,7 +7,7 @@ use Rattle.vd_kernel.specs.Traces.{Outcome, Shows, Stopped, Step, End, Done, Qui
 use Rattle.vd_kernel.specs.Correspondence.{SameOutcome, SameStep, SameEnd}
 use Rattle.vd_meaning.specs.Building.{ScalarObject, Placed, Made}
 use Rattle.vd_meaning.specs.Elaborations.{stop_text, process_scope, signal_scope, values_from, outcome_of, step_of, end_of}
-use Rattle.vd_maps.specs.Joins.{Joining}
+use Rattle.vd_joins.specs.Joins.{Joining}
 use Rattle.vd_maps.specs.SameRuns.{Joins, ScopesJoin, IsSameRun}
 use Rattle.vd_maps.specs.SameTraces.{SameOutcomes, SameSteps, SameEnds}
 use Rattle.vd_maps.specs.Laws.{RunsGiveTraces}

@@ -10,7 +10,7 @@ use Rattle.vd_environments.specs.Environments.{Argument, Denotation, Env}
 use Rattle.vd_meaning.specs.Building.{Built, State}
 use Rattle.vd_meaning.specs.Elaborations.{units_of, hierarchy_of, beginning, with_packages}
 use Rattle.vd_meaning.specs.Tables.{table}
-use Rattle.vd_maps.specs.Joins.{Joining}
+use Rattle.vd_joins.specs.Joins.{Joining}
 use Rattle.vd_maps.specs.SameRuns.{EndAlike}
 use Rattle.vd_maps.specs.TypedValues.{are_values_of}
 use Rattle.vd_maps.specs.Interfaces.{Kind, Type', Subtype', Constant', Function', Item, UnitInterface, OfEntity, OfArchitecture, OfPackage, interface_of, keeps_item}

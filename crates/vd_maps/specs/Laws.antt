@@ -16,7 +16,7 @@ use Rattle.vd_resolved.specs.Trees.{ResolvedTree}
 use Rattle.vd_meaning.specs.Building.{ScalarObject, Placed, Made}
 use Rattle.vd_meaning.specs.Elaborations.{Elaboration, Elaborates, Fails, NoTop, elaboration, shape_of, model_of}
 use Rattle.vd_first_names.specs.Joins as rows
-use Rattle.vd_maps.specs.Joins.{Joining, map_of, pass_with, joins, scopes_join}
+use Rattle.vd_joins.specs.Joins.{Joining, map_of, pass_with, joins, scopes_join}
 use Rattle.vd_maps.specs.SameRuns.{Joins, ScopesJoin, IsSameRun, HaveSameRunIf}
 use Rattle.vd_maps.specs.Units.{Sort, EntityUnit, ArchitectureUnit, Node, units_in}
 use Rattle.vd_maps.specs.Tops.{NamedTop, top_in, HasTop}

@@ -1,5 +1,4 @@
 pub mod Interfaces
-pub mod Joins
 pub mod KeptValues
 pub mod Marks
 pub mod RowOrders

@@ -17,7 +17,7 @@ use Rattle.vd_meaning.specs.Brackets.{or_else}
 use Rattle.vd_meaning.specs.Building.{Mode, ScalarObject}
 use Rattle.vd_meaning.specs.Instances.{implicit_name}
 use Rattle.vd_first_names.specs.Joins.{label_names}
-use Rattle.vd_maps.specs.Joins.{last_level}
+use Rattle.vd_joins.specs.Joins.{last_level}
 use Rattle.vd_maps.specs.Units.{Sort, EntityUnit, ArchitectureUnit, InstanceUnit, PlainPort, ViewPort, SignalObjects, TypeText, ViewText, LabelledStatement, InstanceStatement, GenerateRegion, RecordText, sort, Node, units_in, nodes, all_nodes, declared_at, is_number, is_present, Mark, no_mark, named, mark_in, Object, objects_named, objects_of_name}
 
 -- ---- units by their names

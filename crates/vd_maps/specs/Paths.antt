@@ -12,7 +12,7 @@ use Rattle.vd_trees.specs.declared.rows.Row.{Row}
 use Rattle.vd_trees.specs.declared.rows.RowKind.{RowKind}
 use Rattle.vd_trees.specs.declared.rows.RowKind.TheVariants as kinds
 use Rattle.vd_first_names.specs.Maps.{map_text_of}
-use Rattle.vd_maps.specs.Joins.{map_of, joins, scopes_join}
+use Rattle.vd_joins.specs.Joins.{map_of, joins, scopes_join}
 
 -- ---- pieces
 

@@ -10,7 +10,7 @@ use Rattle.vd_resolved.specs.Trees.{ResolvedTree}
 use Rattle.vd_environments.specs.Got.{Halt}
 use Rattle.vd_meaning.specs.Building.{ScalarObject, Placed, Made, Failing, Stopped, Limited}
 use Rattle.vd_meaning.specs.Elaborations.{Elaboration, Elaborates, Fails, NoTop, elaboration, model_of, signal_scope}
-use Rattle.vd_maps.specs.Joins.{Joining, joins, scopes_join}
+use Rattle.vd_joins.specs.Joins.{Joining, joins, scopes_join}
 use Rattle.vd_maps.specs.Tops.{NamedTop, top_in, HasTop, HasTypedGenerics}
 
 -- ---- signals

@@ -7,7 +7,7 @@ use Rattle.vd_kernel.specs.Models.{Stimulus}
 use Rattle.vd_kernel.specs.Stimuli.{SameAtInputs}
 use Rattle.vd_meaning.specs.Building.{Made}
 use Rattle.vd_meaning.specs.Elaborations.{shape_of, trace_of}
-use Rattle.vd_maps.specs.Joins.{Joining}
+use Rattle.vd_joins.specs.Joins.{Joining}
 use Rattle.vd_maps.specs.SameRuns.{Joins, EqualStops}
 
 -- signals that join show the same, or both steps stop

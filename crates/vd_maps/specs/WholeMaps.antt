@@ -10,7 +10,7 @@ use Rattle.vd_trees.specs.declared.rows.RowKind.TheVariants.{Port, Signal, Impli
 use Rattle.vd_resolved.specs.Trees.{ResolvedTree}
 use Rattle.vd_meaning.specs.Building.{Mode, Input, Output, BothWays, ScalarObject, Made}
 use Rattle.vd_meaning.specs.Elaborations.{Elaboration, Elaborates, Fails, NoTop, elaboration}
-use Rattle.vd_maps.specs.Joins.{Joining, map_of, object_names, gives_objects}
+use Rattle.vd_joins.specs.Joins.{Joining, map_of, object_names, gives_objects}
 use Rattle.vd_maps.specs.Units.{Mark}
 use Rattle.vd_maps.specs.Marks.{marks_of, taken_by}
 use Rattle.vd_maps.specs.Tops.{NamedTop, top_in, HasTop, HasTypedGenerics}
