@@ -1,0 +1,2 @@
+pub mod SpreadingLemmas
+pub mod WholeLemmas
