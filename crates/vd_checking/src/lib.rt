@@ -2,7 +2,9 @@
 #![tactic(auto)]
 
 pub mod checking;
-mod lines;
-mod verdicts;
+pub mod lines;
+pub mod verdicts;
 
 pub use checking::Checking;
+pub use lines::add_all_warnings;
+pub use verdicts::refusal_due;

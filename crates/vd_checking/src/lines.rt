@@ -57,7 +57,7 @@ pub(crate) fn file_named<'a>(names: &'a [String], file: usize) -> &'a str
 }
 
 /// Puts the lines of the warnings of all files behind a text.
-fn add_all_warnings(
+pub fn add_all_warnings(
     alloc: Global,
     text: &mut Vec<u8>,
     names: &[String],

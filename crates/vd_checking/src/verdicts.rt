@@ -17,7 +17,7 @@ use vd_program::DueBytes;
 const MOST: usize = 67_108_864;
 
 /// That a rule is broken at a place, with the name of the file that the place is in.
-pub(crate) fn refusal_due(
+pub fn refusal_due(
     alloc: Global,
     names: &[String],
     refused: &Refused,

@@ -1,56 +1,33 @@
 -- What the parts that all modes share say of a mode, in the words that ask for it.
-use Rattle.std.proofs.Common.{◌≡◌, ◌≢◌, ◌<◌, ◌≤◌, ◌⊎◌, ℕ, Bool, List, [], ◌∷◌, length, get_or, refl, sym, ap, ◌∙◌, subst, arith, inl, inr, Option, Some, None, IfSome}
+use Rattle.std.proofs.Common.{◌≡◌, ◌≢◌, ◌<◌, ◌≤◌, ◌⊎◌, ℕ, Bool, List, [], refl, sym, ap, ◌∙◌, subst, arith, inl, inr, Option, Some, None, IfSome}
 use Rattle.std.proofs.lemmas.Bool.{cases_lt}
 use Rattle.std.specs.Prelude.{slice_index_or}
 use Rattle.vd_bytes.specs.declared.channels.Channel.{Channel}
 use Rattle.vd_bytes.specs.Trays.{Rose}
 use Rattle.vd_checking.proofs.CheckLemmas.{IsStatus, check_status}
-use Rattle.vd_first_lower.specs.Conversions.{Answer, refused, beyond, converted, IsConversion}
-use Rattle.vd_first_lex.specs.Lexings.{plain_of}
+use Rattle.vd_converting.proofs.ConversionLaws.{conversion_status}
 use Rattle.vd_program.specs.Dues.{Due, refused_words, read_fault}
 use Rattle.vd_program.specs.Outcomes.{contents_of, IsFilesOutcome, IsOutcomeOfFiles, IsReadFault, IsOwnStatus, WritesFiles}
 use Rattle.vd_program.specs.Endings.{GotAll}
 use Rattle.vd_command.specs.Words.{Job, refusing, converting, checking, files_of, job_of, writes}
-use Rattle.vd_command.specs.Outcomes.{due_of, Says, SaysConversion}
+use Rattle.vd_command.specs.Outcomes.{Says, SaysConversion}
 use Rattle.vd_command.specs.Endings.{IsCompleted, IsOutcomeOf, Writes}
 use Rattle.vd_command.specs.Headline.{HasNoFault}
 
--- a list of one
-alone : (xs : List (List ℕ)) → length xs ≡ 1 → xs ≡ get_or xs 0 [] ∷ []
-alone [] e = absurd (omega (arith, e))
-alone (x ∷ []) e = refl
-alone (x ∷ y ∷ ys) e = absurd (omega (arith, e))
-
--- what is formed for the first of the files is what is due, where there is one alone
-pub says_of : (names contents : List (List ℕ)) (due : Due) → length names ≡ 1 → length contents ≡ 1
-    → (answer : Answer) × IsConversion (plain_of 0 (get_or contents 0 [])) answer × (due ≡ due_of (get_or names 0 []) answer)
-    → SaysConversion names contents due
-says_of names contents due one_name one_content x =
-    subst (λ cs. SaysConversion names cs due) (sym (alone contents one_content))
-    (subst (λ ns. SaysConversion ns (get_or contents 0 [] ∷ []) due) (sym (alone names one_name)) x)
-
 -- ---- statuses
-
-conversion_status : (names contents : List (List ℕ)) (due : Due) → SaysConversion names contents due → IsCompleted due.status
-conversion_status [] contents due x = absurd x
-conversion_status (file ∷ second ∷ names) contents due x = absurd x
-conversion_status (file ∷ []) [] due x = absurd x
-conversion_status (file ∷ []) (content ∷ second ∷ contents) due x = absurd x
-conversion_status (file ∷ []) (content ∷ []) due x = subst (λ (d : Due). IsCompleted d.status) (sym x.2) (by x.0)
-  where
-    by : (a : Answer) → IsCompleted (due_of file a).status
-    by (refused y) = inr (inl refl)
-    by (beyond limit) = inr (inr (inr refl))
-    by (converted design rows units) = inl refl
 
 completed_of : (n : ℕ) → IsStatus n → IsCompleted n
 completed_of n (inl z) = inl z
 completed_of n (inr (inl z)) = inr (inl z)
 completed_of n (inr (inr z)) = inr (inr (inr z))
 
+conversion_completed : (tool : List ℕ) (names contents : List (List ℕ)) (due : Due) → SaysConversion tool names contents due → IsCompleted due.status
+conversion_completed tool names contents due (SaysConversion.first x) = subst (λ (d : Due). IsCompleted d.status) (sym x.due_is) (inl refl)
+conversion_completed tool names contents due (SaysConversion.other none x) = completed_of due.status (conversion_status tool names contents due x)
+
 said_status : (job : Job) (names contents : List (List ℕ)) (due : Due) → Says job names contents due → IsCompleted due.status
 said_status refusing names contents due e = subst (λ (d : Due). IsCompleted d.status) (sym e) (inr (inr (inl refl)))
-said_status (converting file) names contents due x = conversion_status names contents due x
+said_status (converting tool files) names contents due x = conversion_completed tool names contents due x
 said_status (checking tool files) names contents due x = completed_of due.status (check_status tool names contents due x)
 
 job_status : (job : Job) (names contents : List (List ℕ)) (due : Due) → IsFilesOutcome (Says job) names contents due → IsCompleted due.status

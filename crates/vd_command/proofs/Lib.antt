@@ -1,3 +1,4 @@
+pub mod FirstLemmas
 pub mod EqualRuns
 pub mod HeadlineLemmas
 pub mod JobLemmas

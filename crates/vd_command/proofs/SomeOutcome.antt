@@ -1,9 +1,8 @@
 -- Words and files have an outcome.
-use Rattle.std.proofs.Common.{◌≡◌, ◌⊎◌, ◌<◌, ◌≤◌, ◌+◌, ℕ, true, List, length, refl, inl, inr, Option, Some, None}
+use Rattle.std.proofs.Common.{◌≡◌, ◌⊎◌, ◌<◌, ◌≤◌, ◌+◌, ℕ, true, List, [], ◌∷◌, length, refl, inl, inr, Option, Some, None}
 use Rattle.std.proofs.lemmas.Bool.{cases_lt}
 use Rattle.vd_bytes.specs.declared.places.Place.{Place}
 use Rattle.vd_bytes.specs.declared.answers.Limit.TheVariants as limits
-use Rattle.vd_bytes.specs.Trays.{content_of}
 use Rattle.vd_forest.specs.Forest.{Forest}
 use Rattle.vd_first_trees.specs.declared.form.Form.{Form}
 use Rattle.vd_trees.specs.declared.revision.Revision.TheVariants.{V2019}
@@ -22,12 +21,16 @@ use Rattle.vd_first_accept.specs.Acceptance.{HasTokens}
 use Rattle.vd_first_accept.specs.Unknown.{first_unknown}
 use Rattle.vd_first_accept.proofs.UnknownFound.{names_known, names_unknown}
 use Rattle.vd_first_lower.specs.Conversions.{Answer, refused, beyond, converted, design_text, map_rows, IsConversion}
+use Rattle.vd_first_lower.specs.Steps.{HasOneConversion}
 use Rattle.vd_checking.proofs.CheckLemmas.{check_some}
+use Rattle.vd_converting.proofs.ConversionLaws.{conversion_some}
+use Rattle.vd_trees.specs.declared.rows.Row.{Row}
 use Rattle.vd_design_files.specs.Laws.{HasSomeAnswer}
 use Rattle.vd_program.specs.Dues.{Due, refused_words, limit_number, limit_passed}
 use Rattle.vd_program.specs.Outcomes.{contents_of, total_length, IsFilesOutcome}
+use Rattle.vd_command.proofs.FirstLemmas.{refused_is_not_first, beyond_is_not_first, several_are_not_first, none_is_not_first}
 use Rattle.vd_command.specs.Words.{Job, refusing, converting, checking, files_of, job_of}
-use Rattle.vd_command.specs.Outcomes.{due_of, Says, IsJobOutcome, HasSomeOutcome}
+use Rattle.vd_command.specs.Outcomes.{conversion, IsNotFirst, Says, SaysConversion, IsJobOutcome, HasSomeOutcome}
 
 abbrev Conversion : Selected → Type 0
 Conversion s = (a : Answer) × IsConversion s a
@@ -58,10 +61,30 @@ by_lexing s (lexed ts) is = by_count s ts is (cases_lt (TOKENS_LIMIT + 1) (lengt
 some_conversion : (s : Selected) → Conversion s
 some_conversion s = let l = some_lexing V2019 s in by_lexing s l.0 l.1
 
-module _ (some_answer : HasSomeAnswer) where
+-- ---- of files: what is said of the first language where that is converted, and else of the whole profile
+
+module _ (one_conversion : HasOneConversion) (some_answer : HasSomeAnswer) (tool : List ℕ) (names : List (List ℕ)) where
+  whole : (contents : List (List ℕ)) → IsNotFirst contents → (due : Due) × SaysConversion tool names contents due
+  whole contents none = let x = conversion_some tool names contents some_answer in (x.0, SaysConversion.other none x.1)
+
+  of_content : (content : List ℕ) (a : Answer) → IsConversion (plain_of 0 content) a → (due : Due) × SaysConversion tool names (content ∷ []) due
+  of_content content (refused x) is = whole (content ∷ []) (refused_is_not_first one_conversion content x is)
+  of_content content (beyond limit) is = whole (content ∷ []) (beyond_is_not_first one_conversion content limit is)
+  of_content content (converted design rows units) is =
+      (
+        conversion design rows units,
+        SaysConversion.first (record { content = content; alone = refl; design = design; rows = rows; units = units; is = is; due_is = refl }),
+      )
+
+  some_said_of : (contents : List (List ℕ)) → (due : Due) × SaysConversion tool names contents due
+  some_said_of [] = whole [] none_is_not_first
+  some_said_of (content ∷ second ∷ contents) = whole (content ∷ second ∷ contents) (several_are_not_first content second contents)
+  some_said_of (content ∷ []) = let c = some_conversion (plain_of 0 content) in of_content content c.0 c.1
+
+module _ (one_conversion : HasOneConversion) (some_answer : HasSomeAnswer) where
   some_said : (job : Job) (files : List (List ℕ × List ℕ)) → (due : Due) × Says job (files_of job) (contents_of files (files_of job)) due
   some_said refusing files = (refused_words, refl)
-  some_said (converting file) files = let c = some_conversion (plain_of 0 (content_of files file)) in (due_of file c.0, (c.0, c.1, refl))
+  some_said (converting tool names) files = some_said_of one_conversion some_answer tool names (contents_of files names)
   some_said (checking tool names) files = check_some some_answer tool names (contents_of files names)
 
   some_of_job : (job : Job) (files : List (List ℕ × List ℕ)) → (due : Due) × IsJobOutcome job files due

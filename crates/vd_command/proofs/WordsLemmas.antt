@@ -1,25 +1,17 @@
 -- What is to be done for a command, and for words.
-use Rattle.std.proofs.Common.{◌≡◌, ◌≢◌, ℕ, List, [], ◌∷◌, length, refl, sym, ap, arith, subst, Some, None}
+use Rattle.std.proofs.Common.{◌≡◌, ◌≢◌, ℕ, List, refl, sym, ap, subst, Some, None}
 use Rattle.vd_words.specs.declared.command.Mode.{Mode}
 use Rattle.vd_words.specs.declared.command.Mode.TheVariants.{Convert, Check, Run19, Run93}
 use Rattle.vd_words.specs.Commands.{Meaning, meaning_of}
 use Rattle.vd_command.specs.declared.action.Action.{Action}
-use Rattle.vd_command.specs.Words.{refusing, converting, job_in, job_of, job_of_command, job_of_meaning, IsActionFor}
+use Rattle.vd_command.specs.Words.{refusing, job_in, job_of, job_of_command, job_of_meaning, IsActionFor}
 
--- one file alone is that of a conversion
-pub file_alone : (tool : List ℕ) (files : List (List ℕ)) → length files ≡ 1 → (file : List ℕ) × (files ≡ file ∷ []) × (job_in Convert tool files ≡ converting file)
-file_alone tool [] e = absurd (omega (arith, e))
-file_alone tool (file ∷ []) e = (file, refl, refl)
-file_alone tool (file ∷ other ∷ files) e = absurd (omega (arith, e))
-
--- no other number of files is, nor another mode
-pub no_job : (mode : Mode) (tool : List ℕ) (files : List (List ℕ)) → (mode ≡ Convert → length files ≢ 1) → mode ≢ Check → job_in mode tool files ≡ refusing
-no_job Convert tool [] h other = refl
-no_job Convert tool (file ∷ []) h other = absurd (h refl refl)
-no_job Convert tool (file ∷ second ∷ files) h other = refl
-no_job Check tool files h other = absurd (other refl)
-no_job Run19 tool files h other = refl
-no_job Run93 tool files h other = refl
+-- the program has no other mode
+pub no_job : (mode : Mode) (tool : List ℕ) (files : List (List ℕ)) → mode ≢ Convert → mode ≢ Check → job_in mode tool files ≡ refusing
+no_job Convert tool files one other = absurd (one refl)
+no_job Check tool files one other = absurd (other refl)
+no_job Run19 tool files one other = refl
+no_job Run93 tool files one other = refl
 
 job_as : (words : List (List ℕ)) (m : Meaning) → meaning_of words ≡ Some m → job_of words ≡ job_of_meaning m
 unfolding job_of

@@ -1,5 +1,5 @@
 -- What the whole call promises of a conversion, and of a check.
-use Rattle.std.specs.Prelude.{◌≡◌, ◌<◌, ◌≤◌, ◌+◌, ℕ, [], List, length, slice_index_or, Option}
+use Rattle.std.specs.Prelude.{◌≡◌, ◌<◌, ◌≤◌, ◌+◌, ℕ, [], ◌∷◌, List, length, slice_index_or, Option}
 use Rattle.std.specs.List.{AllByRecursion}
 use Rattle.vd_bytes.specs.declared.channels.Channel.{Channel}
 use Rattle.vd_bytes.specs.declared.channels.Channel.TheVariants.{Design, Map, Console}
@@ -17,8 +17,14 @@ use Rattle.vd_first_lower.specs.Headline.{IsText, IsFaithful}
 use Rattle.vd_program.specs.Dues.{limit_number}
 use Rattle.vd_program.specs.Outcomes.{contents_of, total_length}
 use Rattle.vd_checking.specs.Checks.{MeetsRules}
+use Rattle.vd_checking.specs.Checks.{refusal_in}
+use Rattle.vd_directives.specs.declared.selected.Line.{Line}
+use Rattle.vd_bytes.specs.declared.answers.Refused.{Refused}
+use Rattle.vd_converting.specs.Conversions.{AreConverted, IsRefused}
+use Rattle.vd_converting.specs.Dues.{console_of, conversion_line}
+use Rattle.vd_converting.specs.Texts.{IsIn93}
 use Rattle.vd_command.specs.Words.{converting, checking, job_of, files_of}
-use Rattle.vd_command.specs.Outcomes.{conversion_line}
+use Rattle.vd_command.specs.Outcomes.{IsNotFirst}
 
 -- Design and Map got a design and a map that say what the bytes of a file say, and Console the line of a conversion. The first argument
 -- says what is out on the channels
@@ -30,9 +36,6 @@ pub record GotConversion {S : Type 0} (written : S → Channel → Option (List 
   pub on_console : Appends (written old Console) (written new Console) (conversion_line 2 (length rows))
   pub faithful : IsFaithful (plain_of 0 content) design rows
 
--- the FILE of the words was converted, where they ask for that
-abbrev pub ConvertsFile : {S : Type 0} → (S → Channel → Option (List ℕ)) → S → S → List (List ℕ) → List (List ℕ × List ℕ) → Type 0
-ConvertsFile written old new words files = (file : List ℕ) → job_of words ≡ converting file → GotConversion written old new (content_of files file)
 
 -- no count of faults rose that has to do with these words. The first two arguments say what the counts are
 pub record HasNoFault {S : Type 0} (read_faults : S → List ℕ → ℕ) (write_faults : S → ℕ) (old new : S) (words : List (List ℕ)) : Type 0 where
@@ -47,10 +50,45 @@ pub record IsAcceptable (content : List ℕ) : Type 0 where
   pub few_tokens : length is_text.tokens ≤ TOKENS_LIMIT + 1
   pub shallow : AllByRecursion (λ d. d ≤ nesting_limit V2019) (file_depths file)
 
+-- the FILE of the words was converted, where they ask for that of one that is acceptable
+abbrev pub ConvertsFile : {S : Type 0} → (S → Channel → Option (List ℕ)) → S → S → List (List ℕ) → List (List ℕ × List ℕ) → Type 0
+ConvertsFile written old new words files =
+    (tool file : List ℕ) → job_of words ≡ converting tool (file ∷ []) → IsAcceptable (content_of files file) → GotConversion written old new (content_of files file)
+
+-- Files of these names with these contents break no rule of revision 2019, and Design got a text of revision 1993 in which no rule is broken, laid out, Map the text of some
+-- rows, and Console the warnings of the files and the line of a conversion. The first argument says what is out on the channels
+pub record GotText93 {S : Type 0} (written : S → Channel → Option (List ℕ)) (old new : S) (tool : List ℕ) (names contents : List (List ℕ)) : Type 0 where
+  pub design : List ℕ
+  pub rows : List Row
+  pub units : ℕ
+  pub warnings : List (List Line)
+  pub legal : AreConverted tool contents units warnings
+  pub in_93 : IsIn93 design
+  pub on_design : Appends (written old Design) (written new Design) design
+  pub on_map : Appends (written old Map) (written new Map) (map_text_of rows)
+  pub on_console : Appends (written old Console) (written new Console) (console_of names warnings units (length rows))
+
+-- the FILEs of the words were converted, where they ask for that and aren't a text of the first language
+abbrev pub ConvertsFiles : {S : Type 0} → (S → Channel → Option (List ℕ)) → S → S → List (List ℕ) → List (List ℕ × List ℕ) → Type 0
+ConvertsFiles written old new words files =
+    (tool : List ℕ) (names : List (List ℕ)) → job_of words ≡ converting tool names → IsNotFirst (contents_of files names)
+    → GotText93 written old new tool names (contents_of files names)
+
+-- Nothing was written of the FILEs of the words, where they ask for a conversion: Console got the first rule that they break, or 199, which comes only where they break none.
+pub record GotRefusal {S : Type 0} (written : S → Channel → Option (List ℕ)) (old new : S) (tool : List ℕ) (names contents : List (List ℕ)) : Type 0 where
+  pub rule : Refused
+  pub is_refused : IsRefused tool contents rule
+  pub on_console : Appends (written old Console) (written new Console) (refusal_in names rule).console
+
+abbrev pub RefusesFiles : {S : Type 0} → (S → Channel → Option (List ℕ)) → S → S → List (List ℕ) → List (List ℕ × List ℕ) → Type 0
+RefusesFiles written old new words files =
+    (tool : List ℕ) (names : List (List ℕ)) → job_of words ≡ converting tool names → GotRefusal written old new tool names (contents_of files names)
+
 -- the words ask for a conversion of an acceptable file
 pub record NamesAcceptable (words : List (List ℕ)) (files : List (List ℕ × List ℕ)) : Type 0 where
+  pub tool : List ℕ
   pub file : List ℕ
-  pub names : job_of words ≡ converting file
+  pub names : job_of words ≡ converting tool (file ∷ [])
   pub acceptable : IsAcceptable (content_of files file)
 
 -- files of revision 2019 that break no rule, within the limits

@@ -8,8 +8,8 @@ use vd_words::FileNames;
 pub enum Action {
     /// Say that the words aren't taken.
     RefuseWords,
-    /// Convert the one file.
-    Convert(FileNames),
+    /// Convert the files, under a tool type.
+    Convert(Text, FileNames),
     /// Check the files, under a tool type.
     Check(Text, FileNames),
 }

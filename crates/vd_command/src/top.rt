@@ -9,7 +9,7 @@ ghost use Rattle.vd_program.specs.Outcomes.{contents_of};
 ghost use Rattle.vd_command.specs.Words.{Job, refusing, checking, job_of, files_of, texts_of};
 ghost use Rattle.vd_command.specs.Outcomes.{HasOneOutcome, HasSomeOutcome};
 ghost use Rattle.vd_command.specs.Endings.{IsCompleted, IsOutcomeOf, IsDueOrFault, FailsAt, Writes};
-ghost use Rattle.vd_command.specs.Headline.{ConvertsFile, HasNoFault, NamesAcceptable, ChecksLegal, IsWithinRules};
+ghost use Rattle.vd_command.specs.Headline.{ConvertsFile, ConvertsFiles, RefusesFiles, HasNoFault, NamesAcceptable, ChecksLegal, IsWithinRules};
 
 use crate::action::Action;
 use crate::conversion::Conversion;
@@ -19,7 +19,7 @@ use vd_bytes::Tray;
 use vd_checking::Checking;
 use vd_program::{MEMORY, perform, refuse_words};
 
-/// Converts the file that the words name, or checks the files, and answers a status: 0 done, 1 a rule is broken, 2 the words aren't taken,
+/// Converts the files that the words name, or checks them, and answers a status: 0 done, 1 a rule is broken, 2 the words aren't taken,
 /// 3 a fault in reading, 4 a fault in writing, 5 want of memory, 6 a limit is passed.
 pub fn vdown<T: Tray>(alloc: Global, words: &Vec<String>, tray: &mut T) -> u8
     // With the statuses 0, 1, 2 and 6 the outcome of words and files is reached, and each channel got its due bytes.
@@ -27,10 +27,20 @@ pub fn vdown<T: Tray>(alloc: Global, words: &Vec<String>, tray: &mut T) -> u8
         × IsOutcomeOf (T.files tray.old) (texts_of words.now.items) due
         × GotAll T.written tray.old tray.new due }
 
-    // With status 0 of a conversion Design and Map got a design and a map that say what the file says: a 1993 text with a whole map, the
-    // same interface, and the same run for every top, all inputs and every number of cycles.
+    // With status 0 of a conversion of one file of the first language Design and Map got a design and a map that say what the file says: a
+    // 1993 text with a whole map, the same interface, and the same run for every top, all inputs and every number of cycles.
     ensures headline { result ≡ 0
         → IfSome (T.files tray.old) (λ told. ConvertsFile T.written tray.old tray.new (texts_of words.now.items) told) }
+
+    // With status 0 of any other conversion the files break no rule of revision 2019, and Design got a text of revision 1993 that breaks no
+    // rule of that revision, read again by its lexis and grammar, and laid out.
+    ensures converts { result ≡ 0
+        → IfSome (T.files tray.old) (λ told. ConvertsFiles T.written tray.old tray.new (texts_of words.now.items) told) }
+
+    // With status 1 of a conversion Console got the first rule that the files break; or 199, only where they break none: the program can't
+    // show that what it would write is a text of revision 1993.
+    ensures refuses { result ≡ 1
+        → IfSome (T.files tray.old) (λ told. RefusesFiles T.written tray.old tray.new (texts_of words.now.items) told) }
 
     // Where no fault came and memory sufficed, the outcome is reached; and a file of the first language within the limits is then
     // converted.
@@ -84,7 +94,9 @@ pub fn vdown<T: Tray>(alloc: Global, words: &Vec<String>, tray: &mut T) -> u8
     ensures same_files { T.files tray.new ≡ T.files tray.old }
 {
     match action_of(alloc, words) {
-        Ok(Action::Convert(files)) => perform(alloc, &Conversion, files.as_slice(), tray),
+        Ok(Action::Convert(tool_type, files)) => {
+            perform(alloc, &Conversion::of(tool_type), files.as_slice(), tray)
+        }
         Ok(Action::Check(tool_type, files)) => {
             perform(alloc, &Checking::of(tool_type), files.as_slice(), tray)
         }
@@ -94,7 +106,8 @@ pub fn vdown<T: Tray>(alloc: Global, words: &Vec<String>, tray: &mut T) -> u8
 }
 
 /// Words and files have at most one outcome, so where a tray tells its files, the statuses 0, 1, 2 and 6, and what is written
-/// with them, are determined by words and files, faults and want of memory aside.
+/// with them, are determined by words and files, faults and want of memory aside; but for what is written of files of the whole profile that
+/// break no rule.
 pub fn one_outcome()
     ensures { HasOneOutcome }
 {}

@@ -19,7 +19,7 @@ pub fn action_of(alloc: Global, words: &Vec<String>) -> Result<Action, AllocErro
     }
 }
 
-// What is to be done for a command: the words are taken where the program has its mode, and that takes so many FILEs.
+// What is to be done for a command: the words are taken where the program has its mode.
 fn action_for(command: Command) -> Action
     ensures { IsActionFor result (job_of_meaning (meaning_in command)) }
 {
@@ -30,7 +30,7 @@ fn action_for(command: Command) -> Action
         ..
     } = command;
     match mode {
-        Mode::Convert if files.as_slice().len() == 1 => Action::Convert(files),
+        Mode::Convert => Action::Convert(tool_type, files),
         Mode::Check => Action::Check(tool_type, files),
         _ => Action::RefuseWords,
     }

@@ -7,4 +7,4 @@ mod nonterminals;
 mod reader;
 mod rows;
 
-pub use reader::{lists, read93};
+pub use reader::{lists, read93, read93_within};

@@ -37,6 +37,19 @@ pub fn lists() -> Lists
 }
 
 /// The design of a token list: the tree of its derivation. Or the first token with which no text of
+/// the grammar goes on, or that expressions and statements stand deeper in one another than `deep` before it.
+pub fn read93_within(alloc: Global, tokens: &Tokens, deep: u32) -> Result<Design93, GrammarEnd>
+    requires ends { EndsOnce tokens.now }
+    requires possible { AllByRecursion (IsPossible V1993) tokens.now }
+    ensures { MatchResult result (λ design. IsShapeOf grammar actions tokens.now deep design)
+        (λ end. IsReadEnd grammar tokens.now deep end) }
+{
+    let rows = Rows::of(alloc, lists())?;
+    let table = CheckedTable::of(rows.table());
+    read_design93(alloc, &table, ACTIONS, tokens, deep)
+}
+
+/// The design of a token list: the tree of its derivation. Or the first token with which no text of
 /// the grammar goes on, or that expressions and statements stand too deep in one another before it.
 pub fn read93(alloc: Global, tokens: &Tokens) -> Result<Design93, GrammarEnd>
     requires ends { EndsOnce tokens.now }
@@ -44,7 +57,5 @@ pub fn read93(alloc: Global, tokens: &Tokens) -> Result<Design93, GrammarEnd>
     ensures { MatchResult result (λ design. IsShapeOf grammar actions tokens.now 2000 design)
         (λ end. IsReadEnd grammar tokens.now 2000 end) }
 {
-    let rows = Rows::of(alloc, lists())?;
-    let table = CheckedTable::of(rows.table());
-    read_design93(alloc, &table, ACTIONS, tokens, DEEP)
+    read93_within(alloc, tokens, DEEP)
 }

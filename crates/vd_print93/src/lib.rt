@@ -5,5 +5,5 @@ mod layout;
 mod printing;
 mod tokens;
 
-pub use printing::print;
+pub use printing::{print, text_of};
 pub use tokens::derive93;

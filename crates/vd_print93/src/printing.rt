@@ -8,7 +8,8 @@ ghost use Rattle.vd_trees.specs.declared.revision.Revision.TheVariants.{V1993};
 
 use crate::layout::{Layout, write_item};
 use std::alloc::{AllocError, Global};
-use vd_forms::Design93;
+use vd_forest::Cursor;
+use vd_forms::{Design93, Form};
 use vd_writing::Items;
 
 /// The text of a design, laid out in lines. It is read as the tokens of the design, and these as the design, where no apostrophe stands
@@ -21,12 +22,12 @@ pub fn print(alloc: Global, design: &Design93) -> Result<Vec<u8>, AllocError>
     lay_out(alloc, design)
 }
 
-/// The text of a design, item by item.
-fn lay_out(alloc: Global, design: &Design93) -> Result<Vec<u8>, AllocError>
-    ensures laid_out { IfOk result (λ bytes. bytes.items ≡ layout_of design.now) }
-    ensures valid { IsDesign V1993 design.now }
+/// The text of any trees of forms of 1993, valid or not, laid out in lines by the templates. It is that of `print` where they are the
+/// units of a design.
+pub fn text_of(alloc: Global, trees: &Cursor<'_, Form>) -> Result<Vec<u8>, AllocError>
+    ensures { IfOk result (λ bytes. bytes.items ≡ layout_of trees.now) }
 {
-    let mut items = Items::of(alloc, design)?;
+    let mut items = Items::of_trees(alloc, trees)?;
     let mut out = Vec::new(alloc);
     let mut layout = Layout {
         level: 0,
@@ -40,4 +41,13 @@ fn lay_out(alloc: Global, design: &Design93) -> Result<Vec<u8>, AllocError>
         out.push(b'\n')?;
     }
     Ok(out)
+}
+
+/// The text of a design, item by item.
+fn lay_out(alloc: Global, design: &Design93) -> Result<Vec<u8>, AllocError>
+    ensures laid_out { IfOk result (λ bytes. bytes.items ≡ layout_of design.now) }
+    ensures valid { IsDesign V1993 design.now }
+{
+    let units = design.units();
+    text_of(alloc, &units)
 }

@@ -43,6 +43,18 @@ impl DueBytes {
         }
     }
 
+    /// Status 0, and bytes on all channels. Those of the console needn't be a text.
+    pub fn all(design: Bytes, map: Vec<u8>, console: Vec<u8>) -> DueBytes
+        ensures { result ≡ record { status = 0; design = design; map = map.items; console = console.items } }
+    {
+        DueBytes {
+            status: 0,
+            design,
+            map: Bytes::of(map),
+            console: Bytes::of(console),
+        }
+    }
+
     /// A text of the console alone.
     pub fn console_alone(alloc: Global, status: u8, console: String) -> DueBytes
         ensures { result ≡ console_alone status (string_bytes console) }

@@ -61,13 +61,20 @@ impl<'a> Items<'a> {
         Ok(Items { rows, stack })
     }
 
+    /// The items of any trees, valid or not.
+    pub fn of_trees(alloc: Global, trees: &Cursor<'a, Form>) -> Result<Items<'a>, AllocError>
+        ensures { IfOk result (λ items. items ≡ items_of trees.now) }
+    {
+        Items::by(alloc, TEMPLATES, trees)
+    }
+
     /// The items of a design.
     pub fn of(alloc: Global, design: &'a Design93) -> Result<Items<'a>, AllocError>
         ensures items { IfOk result (λ items. items ≡ items_of design.now) }
         ensures valid { IsDesign V1993 design.now }
     {
         let units = design.units();
-        Items::by(alloc, TEMPLATES, &units)
+        Items::of_trees(alloc, &units)
     }
 
     /// The next item. After an error the items that are left are unknown.

@@ -1,9 +1,10 @@
 use Rattle.std.proofs.Common.{refl, sym, subst, arith}
-use Rattle.std.proofs.lemmas.Result.{IfOk-weaker}
 use Rattle.vd_first_lex.specs.Lexings.{ColumnsFit}
 use Rattle.vd_first_lex.proofs.LineLemmas.{columns_fit}
 use Rattle.vd_first_lower.specs.Conversions.{refused, beyond, converted, IsConversion, EndsAs}
 use Rattle.vd_first_lower.proofs.Alone.{fits_alone}
+use Rattle.vd_first_lower.proofs.OneConversion.{one_conversion}
+use Rattle.vd_command.proofs.FirstLemmas.{refused_is_not_first, beyond_is_not_first}
 use Rattle.vd_command.proofs.conversion.file_due.Goals as goal
 
 pub convert-requires-clause-columns : goal.convert-requires-clause-columns
@@ -11,20 +12,28 @@ convert-requires-clause-columns c =
     fits_alone c.in_ok-selected.selected
     (subst ColumnsFit (sym c.in_ok-selected.ensures) (columns_fit 0 c.args.bytes.now (omega (arith, c.requires.few))))
 
-pub returns-in-Ok : goal.returns-in-Ok
-returns-in-Ok c =
+pub returns-in-Ok-in_ok-clause-first : goal.returns-in-Ok-in_ok-clause-first
+returns-in-Ok-in_ok-clause-first c =
     let answer = converted c.in-Ok.converted.design c.in-Ok.converted.map.rows c.in-Ok.converted.units in
     let is = subst (λ s. IsConversion s answer) c.in_ok-selected.ensures (c.in-Ok.ensures.exact c.in_ok-selected.selected refl) in
-    IfOk-weaker c.conversion_due.result _ _ (λ due e. (answer, is, e)) c.conversion_due.ensures
+    record {
+      content = c.args.bytes.now;
+      alone = refl;
+      design = c.in-Ok.converted.design;
+      rows = c.in-Ok.converted.map.rows;
+      units = c.in-Ok.converted.units;
+      is = is;
+      due_is = c.in-Ok.in_ok-due.ensures;
+    }
 
-pub returns-in-Err-Refused : goal.returns-in-Err-Refused
-returns-in-Err-Refused c =
+pub returns-in-Err-Refused-clause-other : goal.returns-in-Err-Refused-clause-other
+returns-in-Err-Refused-clause-other c =
     let answer = refused c.in-Err-Refused.refused in
     let is = subst (λ s. IsConversion s answer) c.in_ok-selected.ensures (subst (EndsAs c.in_ok-selected.selected) c.in-Err-Refused.field-0-is (c.in-Err-Refused.ensures.exact c.in_ok-selected.selected refl)) in
-    IfOk-weaker c.refusal.result _ _ (λ due e. (answer, is, e)) c.refusal.ensures
+    λ none. refused_is_not_first one_conversion c.args.bytes.now c.in-Err-Refused.refused is
 
-pub returns-in-Err-Limit : goal.returns-in-Err-Limit
-returns-in-Err-Limit c =
+pub returns-in-Err-Limit-clause-other : goal.returns-in-Err-Limit-clause-other
+returns-in-Err-Limit-clause-other c =
     let answer = beyond c.in-Err-Limit.limit in
     let is = subst (λ s. IsConversion s answer) c.in_ok-selected.ensures (subst (EndsAs c.in_ok-selected.selected) c.in-Err-Limit.field-0-is (c.in-Err-Limit.ensures.exact c.in_ok-selected.selected refl)) in
-    IfOk-weaker c.limit.result _ _ (λ due e. (answer, is, e)) c.limit.ensures
+    λ none. beyond_is_not_first one_conversion c.args.bytes.now c.in-Err-Limit.limit is

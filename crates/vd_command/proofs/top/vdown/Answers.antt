@@ -1,28 +1,22 @@
 use Rattle.std.proofs.Common.{◌≡◌, sym, ap, ◌∙◌, subst, inl, length, string_bytes}
 use Rattle.std.proofs.lemmas.List.{length-map}
 use Rattle.vd_design_files.proofs.AnswerLaws.{one_answer}
-use Rattle.vd_first_lower.proofs.OneConversion.{one_conversion}
 use Rattle.vd_program.specs.Dues.{refused_words}
 use Rattle.vd_program.specs.Endings.{GotAll}
 use Rattle.vd_program.specs.Outcomes.{IsDueOrReadFault}
 use Rattle.vd_command.specs.Words.{checking, converting, job_of, texts_of, IsActionFor}
-use Rattle.vd_command.proofs.HeadlineLemmas.{completed_accepts, completed_checks, completed_converts, completed_legal}
+use Rattle.vd_command.proofs.HeadlineLemmas.{completed_accepts, completed_checks, completed_converts, completed_legal, completed_refuses, completed_writes}
 use Rattle.vd_command.proofs.JobLemmas.{as_complete, as_completed, below_seven, by_names, job_writes, not_four, refused_outcome, words_write, writes_nothing, Completes, Faults}
 use Rattle.vd_command.proofs.top.vdown.Goals as goal
-
-pub perform-requires : goal.perform-requires
-perform-requires g c =
-    let a = subst (λ x. IsActionFor x (job_of (texts_of c.args.words.now.items))) c.in-Ok-Convert.field-0-is c.in-Ok-Convert.ensures in
-    record { taken = sym (length-map c.as_slice.result.now string_bytes) ∙ ap length (c.as_slice.ensures ∙ a.1) }
 
 pub returns-in-Ok-Convert-clause-completed : goal.returns-in-Ok-Convert-clause-completed
 returns-in-Ok-Convert-clause-completed g c =
     let words = texts_of c.args.words.now.items in
     let a = subst (λ x. IsActionFor x (job_of words)) c.in-Ok-Convert.field-0-is c.in-Ok-Convert.ensures in
-    let job = converting a.0 in
-    let asks : job_of words ≡ job = a.2 in
+    let job = converting c.of.result c.in-Ok-Convert.files in
+    let asks : job_of words ≡ job = a ∙ ap (λ tool. converting tool c.in-Ok-Convert.files) (sym c.of.ensures) in
     let names = texts_of c.as_slice.result.now in
-    let are = c.as_slice.ensures ∙ a.1 in
+    let are = c.as_slice.ensures in
     let told = g.T.Tray.files c.args.tray.now in
     let old = c.args.tray.now in
     let new = c.perform.new.tray in
@@ -35,10 +29,10 @@ pub returns-in-Ok-Convert-clause-headline : goal.returns-in-Ok-Convert-clause-he
 returns-in-Ok-Convert-clause-headline g c =
     let words = texts_of c.args.words.now.items in
     let a = subst (λ x. IsActionFor x (job_of words)) c.in-Ok-Convert.field-0-is c.in-Ok-Convert.ensures in
-    let job = converting a.0 in
-    let asks : job_of words ≡ job = a.2 in
+    let job = converting c.of.result c.in-Ok-Convert.files in
+    let asks : job_of words ≡ job = a ∙ ap (λ tool. converting tool c.in-Ok-Convert.files) (sym c.of.ensures) in
     let names = texts_of c.as_slice.result.now in
-    let are = c.as_slice.ensures ∙ a.1 in
+    let are = c.as_slice.ensures in
     let told = g.T.Tray.files c.args.tray.now in
     let old = c.args.tray.now in
     let new = c.perform.new.tray in
@@ -47,14 +41,46 @@ returns-in-Ok-Convert-clause-headline g c =
     let faults = by_names words job asks names are (Faults g.T.Tray.read_faults g.T.Tray.write_faults g.T.Tray.written old new told words status) c.perform.ensures.read_fault in
     λ done. completed_converts g.T.Tray.written old new told words status (as_completed g.T.Tray.read_faults g.T.Tray.write_faults g.T.Tray.written old new told words status completes faults c.perform.ensures.write_fault (inl done)) done
 
+pub returns-in-Ok-Convert-clause-converts : goal.returns-in-Ok-Convert-clause-converts
+returns-in-Ok-Convert-clause-converts g c =
+    let words = texts_of c.args.words.now.items in
+    let a = subst (λ x. IsActionFor x (job_of words)) c.in-Ok-Convert.field-0-is c.in-Ok-Convert.ensures in
+    let job = converting c.of.result c.in-Ok-Convert.files in
+    let asks : job_of words ≡ job = a ∙ ap (λ tool. converting tool c.in-Ok-Convert.files) (sym c.of.ensures) in
+    let names = texts_of c.as_slice.result.now in
+    let are = c.as_slice.ensures in
+    let told = g.T.Tray.files c.args.tray.now in
+    let old = c.args.tray.now in
+    let new = c.perform.new.tray in
+    let status = c.perform.result in
+    let completes = by_names words job asks names are (Completes g.T.Tray.read_faults g.T.Tray.write_faults g.T.Tray.written old new told words status) c.perform.ensures.completed in
+    let faults = by_names words job asks names are (Faults g.T.Tray.read_faults g.T.Tray.write_faults g.T.Tray.written old new told words status) c.perform.ensures.read_fault in
+    λ done. completed_writes g.T.Tray.written old new told words status (as_completed g.T.Tray.read_faults g.T.Tray.write_faults g.T.Tray.written old new told words status completes faults c.perform.ensures.write_fault (inl done)) done
+
+pub returns-in-Ok-Convert-clause-refuses : goal.returns-in-Ok-Convert-clause-refuses
+returns-in-Ok-Convert-clause-refuses g c =
+    let words = texts_of c.args.words.now.items in
+    let a = subst (λ x. IsActionFor x (job_of words)) c.in-Ok-Convert.field-0-is c.in-Ok-Convert.ensures in
+    let job = converting c.of.result c.in-Ok-Convert.files in
+    let asks : job_of words ≡ job = a ∙ ap (λ tool. converting tool c.in-Ok-Convert.files) (sym c.of.ensures) in
+    let names = texts_of c.as_slice.result.now in
+    let are = c.as_slice.ensures in
+    let told = g.T.Tray.files c.args.tray.now in
+    let old = c.args.tray.now in
+    let new = c.perform.new.tray in
+    let status = c.perform.result in
+    let completes = by_names words job asks names are (Completes g.T.Tray.read_faults g.T.Tray.write_faults g.T.Tray.written old new told words status) c.perform.ensures.completed in
+    let faults = by_names words job asks names are (Faults g.T.Tray.read_faults g.T.Tray.write_faults g.T.Tray.written old new told words status) c.perform.ensures.read_fault in
+    λ done. completed_refuses g.T.Tray.written old new told words status (as_completed g.T.Tray.read_faults g.T.Tray.write_faults g.T.Tray.written old new told words status completes faults c.perform.ensures.write_fault (inr (inl done))) done
+
 pub returns-in-Ok-Convert-clause-complete : goal.returns-in-Ok-Convert-clause-complete
 returns-in-Ok-Convert-clause-complete g c =
     let words = texts_of c.args.words.now.items in
     let a = subst (λ x. IsActionFor x (job_of words)) c.in-Ok-Convert.field-0-is c.in-Ok-Convert.ensures in
-    let job = converting a.0 in
-    let asks : job_of words ≡ job = a.2 in
+    let job = converting c.of.result c.in-Ok-Convert.files in
+    let asks : job_of words ≡ job = a ∙ ap (λ tool. converting tool c.in-Ok-Convert.files) (sym c.of.ensures) in
     let names = texts_of c.as_slice.result.now in
-    let are = c.as_slice.ensures ∙ a.1 in
+    let are = c.as_slice.ensures in
     let told = g.T.Tray.files c.args.tray.now in
     let old = c.args.tray.now in
     let new = c.perform.new.tray in
@@ -67,10 +93,10 @@ pub returns-in-Ok-Convert-clause-accepts : goal.returns-in-Ok-Convert-clause-acc
 returns-in-Ok-Convert-clause-accepts g c =
     let words = texts_of c.args.words.now.items in
     let a = subst (λ x. IsActionFor x (job_of words)) c.in-Ok-Convert.field-0-is c.in-Ok-Convert.ensures in
-    let job = converting a.0 in
-    let asks : job_of words ≡ job = a.2 in
+    let job = converting c.of.result c.in-Ok-Convert.files in
+    let asks : job_of words ≡ job = a ∙ ap (λ tool. converting tool c.in-Ok-Convert.files) (sym c.of.ensures) in
     let names = texts_of c.as_slice.result.now in
-    let are = c.as_slice.ensures ∙ a.1 in
+    let are = c.as_slice.ensures in
     let told = g.T.Tray.files c.args.tray.now in
     let old = c.args.tray.now in
     let new = c.perform.new.tray in
@@ -78,17 +104,17 @@ returns-in-Ok-Convert-clause-accepts g c =
     let completes = by_names words job asks names are (Completes g.T.Tray.read_faults g.T.Tray.write_faults g.T.Tray.written old new told words status) c.perform.ensures.completed in
     let faults = by_names words job asks names are (Faults g.T.Tray.read_faults g.T.Tray.write_faults g.T.Tray.written old new told words status) c.perform.ensures.read_fault in
     λ none enough.
-    completed_accepts one_conversion one_answer told words status (GotAll g.T.Tray.written old new)
+    completed_accepts told words status (GotAll g.T.Tray.written old new)
     (as_completed g.T.Tray.read_faults g.T.Tray.write_faults g.T.Tray.written old new told words status completes faults c.perform.ensures.write_fault (as_complete g.T.Tray.read_faults g.T.Tray.write_faults g.T.Tray.written old new told words status completes faults c.perform.ensures.write_fault none enough))
 
 pub returns-in-Ok-Convert-clause-checks : goal.returns-in-Ok-Convert-clause-checks
 returns-in-Ok-Convert-clause-checks g c =
     let words = texts_of c.args.words.now.items in
     let a = subst (λ x. IsActionFor x (job_of words)) c.in-Ok-Convert.field-0-is c.in-Ok-Convert.ensures in
-    let job = converting a.0 in
-    let asks : job_of words ≡ job = a.2 in
+    let job = converting c.of.result c.in-Ok-Convert.files in
+    let asks : job_of words ≡ job = a ∙ ap (λ tool. converting tool c.in-Ok-Convert.files) (sym c.of.ensures) in
     let names = texts_of c.as_slice.result.now in
-    let are = c.as_slice.ensures ∙ a.1 in
+    let are = c.as_slice.ensures in
     let told = g.T.Tray.files c.args.tray.now in
     let old = c.args.tray.now in
     let new = c.perform.new.tray in
@@ -96,17 +122,17 @@ returns-in-Ok-Convert-clause-checks g c =
     let completes = by_names words job asks names are (Completes g.T.Tray.read_faults g.T.Tray.write_faults g.T.Tray.written old new told words status) c.perform.ensures.completed in
     let faults = by_names words job asks names are (Faults g.T.Tray.read_faults g.T.Tray.write_faults g.T.Tray.written old new told words status) c.perform.ensures.read_fault in
     λ none enough.
-    completed_checks one_conversion one_answer told words status (GotAll g.T.Tray.written old new)
+    completed_checks one_answer told words status (GotAll g.T.Tray.written old new)
     (as_completed g.T.Tray.read_faults g.T.Tray.write_faults g.T.Tray.written old new told words status completes faults c.perform.ensures.write_fault (as_complete g.T.Tray.read_faults g.T.Tray.write_faults g.T.Tray.written old new told words status completes faults c.perform.ensures.write_fault none enough))
 
 pub returns-in-Ok-Convert-clause-legal : goal.returns-in-Ok-Convert-clause-legal
 returns-in-Ok-Convert-clause-legal g c =
     let words = texts_of c.args.words.now.items in
     let a = subst (λ x. IsActionFor x (job_of words)) c.in-Ok-Convert.field-0-is c.in-Ok-Convert.ensures in
-    let job = converting a.0 in
-    let asks : job_of words ≡ job = a.2 in
+    let job = converting c.of.result c.in-Ok-Convert.files in
+    let asks : job_of words ≡ job = a ∙ ap (λ tool. converting tool c.in-Ok-Convert.files) (sym c.of.ensures) in
     let names = texts_of c.as_slice.result.now in
-    let are = c.as_slice.ensures ∙ a.1 in
+    let are = c.as_slice.ensures in
     let told = g.T.Tray.files c.args.tray.now in
     let old = c.args.tray.now in
     let new = c.perform.new.tray in
@@ -119,10 +145,10 @@ pub returns-in-Ok-Convert-clause-words : goal.returns-in-Ok-Convert-clause-words
 returns-in-Ok-Convert-clause-words g c =
     let words = texts_of c.args.words.now.items in
     let a = subst (λ x. IsActionFor x (job_of words)) c.in-Ok-Convert.field-0-is c.in-Ok-Convert.ensures in
-    let job = converting a.0 in
-    let asks : job_of words ≡ job = a.2 in
+    let job = converting c.of.result c.in-Ok-Convert.files in
+    let asks : job_of words ≡ job = a ∙ ap (λ tool. converting tool c.in-Ok-Convert.files) (sym c.of.ensures) in
     let names = texts_of c.as_slice.result.now in
-    let are = c.as_slice.ensures ∙ a.1 in
+    let are = c.as_slice.ensures in
     let told = g.T.Tray.files c.args.tray.now in
     let old = c.args.tray.now in
     let new = c.perform.new.tray in
@@ -133,10 +159,10 @@ pub returns-in-Ok-Convert-clause-not_taken : goal.returns-in-Ok-Convert-clause-n
 returns-in-Ok-Convert-clause-not_taken g c =
     let words = texts_of c.args.words.now.items in
     let a = subst (λ x. IsActionFor x (job_of words)) c.in-Ok-Convert.field-0-is c.in-Ok-Convert.ensures in
-    let job = converting a.0 in
-    let asks : job_of words ≡ job = a.2 in
+    let job = converting c.of.result c.in-Ok-Convert.files in
+    let asks : job_of words ≡ job = a ∙ ap (λ tool. converting tool c.in-Ok-Convert.files) (sym c.of.ensures) in
     let names = texts_of c.as_slice.result.now in
-    let are = c.as_slice.ensures ∙ a.1 in
+    let are = c.as_slice.ensures in
     let told = g.T.Tray.files c.args.tray.now in
     let old = c.args.tray.now in
     let new = c.perform.new.tray in
@@ -147,10 +173,10 @@ pub returns-in-Ok-Convert-clause-read_fault : goal.returns-in-Ok-Convert-clause-
 returns-in-Ok-Convert-clause-read_fault g c =
     let words = texts_of c.args.words.now.items in
     let a = subst (λ x. IsActionFor x (job_of words)) c.in-Ok-Convert.field-0-is c.in-Ok-Convert.ensures in
-    let job = converting a.0 in
-    let asks : job_of words ≡ job = a.2 in
+    let job = converting c.of.result c.in-Ok-Convert.files in
+    let asks : job_of words ≡ job = a ∙ ap (λ tool. converting tool c.in-Ok-Convert.files) (sym c.of.ensures) in
     let names = texts_of c.as_slice.result.now in
-    let are = c.as_slice.ensures ∙ a.1 in
+    let are = c.as_slice.ensures in
     let told = g.T.Tray.files c.args.tray.now in
     let old = c.args.tray.now in
     let new = c.perform.new.tray in
@@ -161,10 +187,10 @@ pub returns-in-Ok-Convert-clause-fronts : goal.returns-in-Ok-Convert-clause-fron
 returns-in-Ok-Convert-clause-fronts g c =
     let words = texts_of c.args.words.now.items in
     let a = subst (λ x. IsActionFor x (job_of words)) c.in-Ok-Convert.field-0-is c.in-Ok-Convert.ensures in
-    let job = converting a.0 in
-    let asks : job_of words ≡ job = a.2 in
+    let job = converting c.of.result c.in-Ok-Convert.files in
+    let asks : job_of words ≡ job = a ∙ ap (λ tool. converting tool c.in-Ok-Convert.files) (sym c.of.ensures) in
     let names = texts_of c.as_slice.result.now in
-    let are = c.as_slice.ensures ∙ a.1 in
+    let are = c.as_slice.ensures in
     let told = g.T.Tray.files c.args.tray.now in
     let old = c.args.tray.now in
     let new = c.perform.new.tray in
@@ -177,10 +203,10 @@ pub returns-in-Ok-Convert-clause-no_design : goal.returns-in-Ok-Convert-clause-n
 returns-in-Ok-Convert-clause-no_design g c =
     let words = texts_of c.args.words.now.items in
     let a = subst (λ x. IsActionFor x (job_of words)) c.in-Ok-Convert.field-0-is c.in-Ok-Convert.ensures in
-    let job = converting a.0 in
-    let asks : job_of words ≡ job = a.2 in
+    let job = converting c.of.result c.in-Ok-Convert.files in
+    let asks : job_of words ≡ job = a ∙ ap (λ tool. converting tool c.in-Ok-Convert.files) (sym c.of.ensures) in
     let names = texts_of c.as_slice.result.now in
-    let are = c.as_slice.ensures ∙ a.1 in
+    let are = c.as_slice.ensures in
     let told = g.T.Tray.files c.args.tray.now in
     let old = c.args.tray.now in
     let new = c.perform.new.tray in
@@ -191,10 +217,10 @@ pub returns-in-Ok-Convert-clause-no_map : goal.returns-in-Ok-Convert-clause-no_m
 returns-in-Ok-Convert-clause-no_map g c =
     let words = texts_of c.args.words.now.items in
     let a = subst (λ x. IsActionFor x (job_of words)) c.in-Ok-Convert.field-0-is c.in-Ok-Convert.ensures in
-    let job = converting a.0 in
-    let asks : job_of words ≡ job = a.2 in
+    let job = converting c.of.result c.in-Ok-Convert.files in
+    let asks : job_of words ≡ job = a ∙ ap (λ tool. converting tool c.in-Ok-Convert.files) (sym c.of.ensures) in
     let names = texts_of c.as_slice.result.now in
-    let are = c.as_slice.ensures ∙ a.1 in
+    let are = c.as_slice.ensures in
     let told = g.T.Tray.files c.args.tray.now in
     let old = c.args.tray.now in
     let new = c.perform.new.tray in
@@ -205,10 +231,10 @@ pub returns-in-Ok-Convert-clause-begun : goal.returns-in-Ok-Convert-clause-begun
 returns-in-Ok-Convert-clause-begun g c =
     let words = texts_of c.args.words.now.items in
     let a = subst (λ x. IsActionFor x (job_of words)) c.in-Ok-Convert.field-0-is c.in-Ok-Convert.ensures in
-    let job = converting a.0 in
-    let asks : job_of words ≡ job = a.2 in
+    let job = converting c.of.result c.in-Ok-Convert.files in
+    let asks : job_of words ≡ job = a ∙ ap (λ tool. converting tool c.in-Ok-Convert.files) (sym c.of.ensures) in
     let names = texts_of c.as_slice.result.now in
-    let are = c.as_slice.ensures ∙ a.1 in
+    let are = c.as_slice.ensures in
     let told = g.T.Tray.files c.args.tray.now in
     let old = c.args.tray.now in
     let new = c.perform.new.tray in
@@ -219,10 +245,10 @@ pub returns-in-Ok-Convert-clause-untouched : goal.returns-in-Ok-Convert-clause-u
 returns-in-Ok-Convert-clause-untouched g c =
     let words = texts_of c.args.words.now.items in
     let a = subst (λ x. IsActionFor x (job_of words)) c.in-Ok-Convert.field-0-is c.in-Ok-Convert.ensures in
-    let job = converting a.0 in
-    let asks : job_of words ≡ job = a.2 in
+    let job = converting c.of.result c.in-Ok-Convert.files in
+    let asks : job_of words ≡ job = a ∙ ap (λ tool. converting tool c.in-Ok-Convert.files) (sym c.of.ensures) in
     let names = texts_of c.as_slice.result.now in
-    let are = c.as_slice.ensures ∙ a.1 in
+    let are = c.as_slice.ensures in
     let told = g.T.Tray.files c.args.tray.now in
     let old = c.args.tray.now in
     let new = c.perform.new.tray in
@@ -233,10 +259,10 @@ pub returns-in-Ok-Convert-clause-statuses : goal.returns-in-Ok-Convert-clause-st
 returns-in-Ok-Convert-clause-statuses g c =
     let words = texts_of c.args.words.now.items in
     let a = subst (λ x. IsActionFor x (job_of words)) c.in-Ok-Convert.field-0-is c.in-Ok-Convert.ensures in
-    let job = converting a.0 in
-    let asks : job_of words ≡ job = a.2 in
+    let job = converting c.of.result c.in-Ok-Convert.files in
+    let asks : job_of words ≡ job = a ∙ ap (λ tool. converting tool c.in-Ok-Convert.files) (sym c.of.ensures) in
     let names = texts_of c.as_slice.result.now in
-    let are = c.as_slice.ensures ∙ a.1 in
+    let are = c.as_slice.ensures in
     let told = g.T.Tray.files c.args.tray.now in
     let old = c.args.tray.now in
     let new = c.perform.new.tray in
@@ -249,8 +275,8 @@ pub returns-in-Ok-Check-clause-completed : goal.returns-in-Ok-Check-clause-compl
 returns-in-Ok-Check-clause-completed g c =
     let words = texts_of c.args.words.now.items in
     let a = subst (λ x. IsActionFor x (job_of words)) c.in-Ok-Check.field-0-is c.in-Ok-Check.ensures in
-    let job = checking c.of.result c.in-Ok-Check.files in
-    let asks : job_of words ≡ job = a ∙ ap (λ tool. checking tool c.in-Ok-Check.files) (sym c.of.ensures) in
+    let job = checking c.of-in-Ok-Check.result c.in-Ok-Check.files in
+    let asks : job_of words ≡ job = a ∙ ap (λ tool. checking tool c.in-Ok-Check.files) (sym c.of-in-Ok-Check.ensures) in
     let names = texts_of c.as_slice-in-Ok-Check.result.now in
     let are = c.as_slice-in-Ok-Check.ensures in
     let told = g.T.Tray.files c.args.tray.now in
@@ -265,8 +291,8 @@ pub returns-in-Ok-Check-clause-headline : goal.returns-in-Ok-Check-clause-headli
 returns-in-Ok-Check-clause-headline g c =
     let words = texts_of c.args.words.now.items in
     let a = subst (λ x. IsActionFor x (job_of words)) c.in-Ok-Check.field-0-is c.in-Ok-Check.ensures in
-    let job = checking c.of.result c.in-Ok-Check.files in
-    let asks : job_of words ≡ job = a ∙ ap (λ tool. checking tool c.in-Ok-Check.files) (sym c.of.ensures) in
+    let job = checking c.of-in-Ok-Check.result c.in-Ok-Check.files in
+    let asks : job_of words ≡ job = a ∙ ap (λ tool. checking tool c.in-Ok-Check.files) (sym c.of-in-Ok-Check.ensures) in
     let names = texts_of c.as_slice-in-Ok-Check.result.now in
     let are = c.as_slice-in-Ok-Check.ensures in
     let told = g.T.Tray.files c.args.tray.now in
@@ -277,12 +303,44 @@ returns-in-Ok-Check-clause-headline g c =
     let faults = by_names words job asks names are (Faults g.T.Tray.read_faults g.T.Tray.write_faults g.T.Tray.written old new told words status) c.perform-in-Ok-Check-2.ensures.read_fault in
     λ done. completed_converts g.T.Tray.written old new told words status (as_completed g.T.Tray.read_faults g.T.Tray.write_faults g.T.Tray.written old new told words status completes faults c.perform-in-Ok-Check-2.ensures.write_fault (inl done)) done
 
+pub returns-in-Ok-Check-clause-converts : goal.returns-in-Ok-Check-clause-converts
+returns-in-Ok-Check-clause-converts g c =
+    let words = texts_of c.args.words.now.items in
+    let a = subst (λ x. IsActionFor x (job_of words)) c.in-Ok-Check.field-0-is c.in-Ok-Check.ensures in
+    let job = checking c.of-in-Ok-Check.result c.in-Ok-Check.files in
+    let asks : job_of words ≡ job = a ∙ ap (λ tool. checking tool c.in-Ok-Check.files) (sym c.of-in-Ok-Check.ensures) in
+    let names = texts_of c.as_slice-in-Ok-Check.result.now in
+    let are = c.as_slice-in-Ok-Check.ensures in
+    let told = g.T.Tray.files c.args.tray.now in
+    let old = c.args.tray.now in
+    let new = c.perform-in-Ok-Check-2.new.tray in
+    let status = c.perform-in-Ok-Check-2.result in
+    let completes = by_names words job asks names are (Completes g.T.Tray.read_faults g.T.Tray.write_faults g.T.Tray.written old new told words status) c.perform-in-Ok-Check-2.ensures.completed in
+    let faults = by_names words job asks names are (Faults g.T.Tray.read_faults g.T.Tray.write_faults g.T.Tray.written old new told words status) c.perform-in-Ok-Check-2.ensures.read_fault in
+    λ done. completed_writes g.T.Tray.written old new told words status (as_completed g.T.Tray.read_faults g.T.Tray.write_faults g.T.Tray.written old new told words status completes faults c.perform-in-Ok-Check-2.ensures.write_fault (inl done)) done
+
+pub returns-in-Ok-Check-clause-refuses : goal.returns-in-Ok-Check-clause-refuses
+returns-in-Ok-Check-clause-refuses g c =
+    let words = texts_of c.args.words.now.items in
+    let a = subst (λ x. IsActionFor x (job_of words)) c.in-Ok-Check.field-0-is c.in-Ok-Check.ensures in
+    let job = checking c.of-in-Ok-Check.result c.in-Ok-Check.files in
+    let asks : job_of words ≡ job = a ∙ ap (λ tool. checking tool c.in-Ok-Check.files) (sym c.of-in-Ok-Check.ensures) in
+    let names = texts_of c.as_slice-in-Ok-Check.result.now in
+    let are = c.as_slice-in-Ok-Check.ensures in
+    let told = g.T.Tray.files c.args.tray.now in
+    let old = c.args.tray.now in
+    let new = c.perform-in-Ok-Check-2.new.tray in
+    let status = c.perform-in-Ok-Check-2.result in
+    let completes = by_names words job asks names are (Completes g.T.Tray.read_faults g.T.Tray.write_faults g.T.Tray.written old new told words status) c.perform-in-Ok-Check-2.ensures.completed in
+    let faults = by_names words job asks names are (Faults g.T.Tray.read_faults g.T.Tray.write_faults g.T.Tray.written old new told words status) c.perform-in-Ok-Check-2.ensures.read_fault in
+    λ done. completed_refuses g.T.Tray.written old new told words status (as_completed g.T.Tray.read_faults g.T.Tray.write_faults g.T.Tray.written old new told words status completes faults c.perform-in-Ok-Check-2.ensures.write_fault (inr (inl done))) done
+
 pub returns-in-Ok-Check-clause-complete : goal.returns-in-Ok-Check-clause-complete
 returns-in-Ok-Check-clause-complete g c =
     let words = texts_of c.args.words.now.items in
     let a = subst (λ x. IsActionFor x (job_of words)) c.in-Ok-Check.field-0-is c.in-Ok-Check.ensures in
-    let job = checking c.of.result c.in-Ok-Check.files in
-    let asks : job_of words ≡ job = a ∙ ap (λ tool. checking tool c.in-Ok-Check.files) (sym c.of.ensures) in
+    let job = checking c.of-in-Ok-Check.result c.in-Ok-Check.files in
+    let asks : job_of words ≡ job = a ∙ ap (λ tool. checking tool c.in-Ok-Check.files) (sym c.of-in-Ok-Check.ensures) in
     let names = texts_of c.as_slice-in-Ok-Check.result.now in
     let are = c.as_slice-in-Ok-Check.ensures in
     let told = g.T.Tray.files c.args.tray.now in
@@ -297,8 +355,8 @@ pub returns-in-Ok-Check-clause-accepts : goal.returns-in-Ok-Check-clause-accepts
 returns-in-Ok-Check-clause-accepts g c =
     let words = texts_of c.args.words.now.items in
     let a = subst (λ x. IsActionFor x (job_of words)) c.in-Ok-Check.field-0-is c.in-Ok-Check.ensures in
-    let job = checking c.of.result c.in-Ok-Check.files in
-    let asks : job_of words ≡ job = a ∙ ap (λ tool. checking tool c.in-Ok-Check.files) (sym c.of.ensures) in
+    let job = checking c.of-in-Ok-Check.result c.in-Ok-Check.files in
+    let asks : job_of words ≡ job = a ∙ ap (λ tool. checking tool c.in-Ok-Check.files) (sym c.of-in-Ok-Check.ensures) in
     let names = texts_of c.as_slice-in-Ok-Check.result.now in
     let are = c.as_slice-in-Ok-Check.ensures in
     let told = g.T.Tray.files c.args.tray.now in
@@ -308,15 +366,15 @@ returns-in-Ok-Check-clause-accepts g c =
     let completes = by_names words job asks names are (Completes g.T.Tray.read_faults g.T.Tray.write_faults g.T.Tray.written old new told words status) c.perform-in-Ok-Check-2.ensures.completed in
     let faults = by_names words job asks names are (Faults g.T.Tray.read_faults g.T.Tray.write_faults g.T.Tray.written old new told words status) c.perform-in-Ok-Check-2.ensures.read_fault in
     λ none enough.
-    completed_accepts one_conversion one_answer told words status (GotAll g.T.Tray.written old new)
+    completed_accepts told words status (GotAll g.T.Tray.written old new)
     (as_completed g.T.Tray.read_faults g.T.Tray.write_faults g.T.Tray.written old new told words status completes faults c.perform-in-Ok-Check-2.ensures.write_fault (as_complete g.T.Tray.read_faults g.T.Tray.write_faults g.T.Tray.written old new told words status completes faults c.perform-in-Ok-Check-2.ensures.write_fault none enough))
 
 pub returns-in-Ok-Check-clause-checks : goal.returns-in-Ok-Check-clause-checks
 returns-in-Ok-Check-clause-checks g c =
     let words = texts_of c.args.words.now.items in
     let a = subst (λ x. IsActionFor x (job_of words)) c.in-Ok-Check.field-0-is c.in-Ok-Check.ensures in
-    let job = checking c.of.result c.in-Ok-Check.files in
-    let asks : job_of words ≡ job = a ∙ ap (λ tool. checking tool c.in-Ok-Check.files) (sym c.of.ensures) in
+    let job = checking c.of-in-Ok-Check.result c.in-Ok-Check.files in
+    let asks : job_of words ≡ job = a ∙ ap (λ tool. checking tool c.in-Ok-Check.files) (sym c.of-in-Ok-Check.ensures) in
     let names = texts_of c.as_slice-in-Ok-Check.result.now in
     let are = c.as_slice-in-Ok-Check.ensures in
     let told = g.T.Tray.files c.args.tray.now in
@@ -326,15 +384,15 @@ returns-in-Ok-Check-clause-checks g c =
     let completes = by_names words job asks names are (Completes g.T.Tray.read_faults g.T.Tray.write_faults g.T.Tray.written old new told words status) c.perform-in-Ok-Check-2.ensures.completed in
     let faults = by_names words job asks names are (Faults g.T.Tray.read_faults g.T.Tray.write_faults g.T.Tray.written old new told words status) c.perform-in-Ok-Check-2.ensures.read_fault in
     λ none enough.
-    completed_checks one_conversion one_answer told words status (GotAll g.T.Tray.written old new)
+    completed_checks one_answer told words status (GotAll g.T.Tray.written old new)
     (as_completed g.T.Tray.read_faults g.T.Tray.write_faults g.T.Tray.written old new told words status completes faults c.perform-in-Ok-Check-2.ensures.write_fault (as_complete g.T.Tray.read_faults g.T.Tray.write_faults g.T.Tray.written old new told words status completes faults c.perform-in-Ok-Check-2.ensures.write_fault none enough))
 
 pub returns-in-Ok-Check-clause-legal : goal.returns-in-Ok-Check-clause-legal
 returns-in-Ok-Check-clause-legal g c =
     let words = texts_of c.args.words.now.items in
     let a = subst (λ x. IsActionFor x (job_of words)) c.in-Ok-Check.field-0-is c.in-Ok-Check.ensures in
-    let job = checking c.of.result c.in-Ok-Check.files in
-    let asks : job_of words ≡ job = a ∙ ap (λ tool. checking tool c.in-Ok-Check.files) (sym c.of.ensures) in
+    let job = checking c.of-in-Ok-Check.result c.in-Ok-Check.files in
+    let asks : job_of words ≡ job = a ∙ ap (λ tool. checking tool c.in-Ok-Check.files) (sym c.of-in-Ok-Check.ensures) in
     let names = texts_of c.as_slice-in-Ok-Check.result.now in
     let are = c.as_slice-in-Ok-Check.ensures in
     let told = g.T.Tray.files c.args.tray.now in
@@ -349,8 +407,8 @@ pub returns-in-Ok-Check-clause-words : goal.returns-in-Ok-Check-clause-words
 returns-in-Ok-Check-clause-words g c =
     let words = texts_of c.args.words.now.items in
     let a = subst (λ x. IsActionFor x (job_of words)) c.in-Ok-Check.field-0-is c.in-Ok-Check.ensures in
-    let job = checking c.of.result c.in-Ok-Check.files in
-    let asks : job_of words ≡ job = a ∙ ap (λ tool. checking tool c.in-Ok-Check.files) (sym c.of.ensures) in
+    let job = checking c.of-in-Ok-Check.result c.in-Ok-Check.files in
+    let asks : job_of words ≡ job = a ∙ ap (λ tool. checking tool c.in-Ok-Check.files) (sym c.of-in-Ok-Check.ensures) in
     let names = texts_of c.as_slice-in-Ok-Check.result.now in
     let are = c.as_slice-in-Ok-Check.ensures in
     let told = g.T.Tray.files c.args.tray.now in
@@ -363,8 +421,8 @@ pub returns-in-Ok-Check-clause-not_taken : goal.returns-in-Ok-Check-clause-not_t
 returns-in-Ok-Check-clause-not_taken g c =
     let words = texts_of c.args.words.now.items in
     let a = subst (λ x. IsActionFor x (job_of words)) c.in-Ok-Check.field-0-is c.in-Ok-Check.ensures in
-    let job = checking c.of.result c.in-Ok-Check.files in
-    let asks : job_of words ≡ job = a ∙ ap (λ tool. checking tool c.in-Ok-Check.files) (sym c.of.ensures) in
+    let job = checking c.of-in-Ok-Check.result c.in-Ok-Check.files in
+    let asks : job_of words ≡ job = a ∙ ap (λ tool. checking tool c.in-Ok-Check.files) (sym c.of-in-Ok-Check.ensures) in
     let names = texts_of c.as_slice-in-Ok-Check.result.now in
     let are = c.as_slice-in-Ok-Check.ensures in
     let told = g.T.Tray.files c.args.tray.now in
@@ -377,8 +435,8 @@ pub returns-in-Ok-Check-clause-read_fault : goal.returns-in-Ok-Check-clause-read
 returns-in-Ok-Check-clause-read_fault g c =
     let words = texts_of c.args.words.now.items in
     let a = subst (λ x. IsActionFor x (job_of words)) c.in-Ok-Check.field-0-is c.in-Ok-Check.ensures in
-    let job = checking c.of.result c.in-Ok-Check.files in
-    let asks : job_of words ≡ job = a ∙ ap (λ tool. checking tool c.in-Ok-Check.files) (sym c.of.ensures) in
+    let job = checking c.of-in-Ok-Check.result c.in-Ok-Check.files in
+    let asks : job_of words ≡ job = a ∙ ap (λ tool. checking tool c.in-Ok-Check.files) (sym c.of-in-Ok-Check.ensures) in
     let names = texts_of c.as_slice-in-Ok-Check.result.now in
     let are = c.as_slice-in-Ok-Check.ensures in
     let told = g.T.Tray.files c.args.tray.now in
@@ -391,8 +449,8 @@ pub returns-in-Ok-Check-clause-fronts : goal.returns-in-Ok-Check-clause-fronts
 returns-in-Ok-Check-clause-fronts g c =
     let words = texts_of c.args.words.now.items in
     let a = subst (λ x. IsActionFor x (job_of words)) c.in-Ok-Check.field-0-is c.in-Ok-Check.ensures in
-    let job = checking c.of.result c.in-Ok-Check.files in
-    let asks : job_of words ≡ job = a ∙ ap (λ tool. checking tool c.in-Ok-Check.files) (sym c.of.ensures) in
+    let job = checking c.of-in-Ok-Check.result c.in-Ok-Check.files in
+    let asks : job_of words ≡ job = a ∙ ap (λ tool. checking tool c.in-Ok-Check.files) (sym c.of-in-Ok-Check.ensures) in
     let names = texts_of c.as_slice-in-Ok-Check.result.now in
     let are = c.as_slice-in-Ok-Check.ensures in
     let told = g.T.Tray.files c.args.tray.now in
@@ -407,8 +465,8 @@ pub returns-in-Ok-Check-clause-no_design : goal.returns-in-Ok-Check-clause-no_de
 returns-in-Ok-Check-clause-no_design g c =
     let words = texts_of c.args.words.now.items in
     let a = subst (λ x. IsActionFor x (job_of words)) c.in-Ok-Check.field-0-is c.in-Ok-Check.ensures in
-    let job = checking c.of.result c.in-Ok-Check.files in
-    let asks : job_of words ≡ job = a ∙ ap (λ tool. checking tool c.in-Ok-Check.files) (sym c.of.ensures) in
+    let job = checking c.of-in-Ok-Check.result c.in-Ok-Check.files in
+    let asks : job_of words ≡ job = a ∙ ap (λ tool. checking tool c.in-Ok-Check.files) (sym c.of-in-Ok-Check.ensures) in
     let names = texts_of c.as_slice-in-Ok-Check.result.now in
     let are = c.as_slice-in-Ok-Check.ensures in
     let told = g.T.Tray.files c.args.tray.now in
@@ -421,8 +479,8 @@ pub returns-in-Ok-Check-clause-no_map : goal.returns-in-Ok-Check-clause-no_map
 returns-in-Ok-Check-clause-no_map g c =
     let words = texts_of c.args.words.now.items in
     let a = subst (λ x. IsActionFor x (job_of words)) c.in-Ok-Check.field-0-is c.in-Ok-Check.ensures in
-    let job = checking c.of.result c.in-Ok-Check.files in
-    let asks : job_of words ≡ job = a ∙ ap (λ tool. checking tool c.in-Ok-Check.files) (sym c.of.ensures) in
+    let job = checking c.of-in-Ok-Check.result c.in-Ok-Check.files in
+    let asks : job_of words ≡ job = a ∙ ap (λ tool. checking tool c.in-Ok-Check.files) (sym c.of-in-Ok-Check.ensures) in
     let names = texts_of c.as_slice-in-Ok-Check.result.now in
     let are = c.as_slice-in-Ok-Check.ensures in
     let told = g.T.Tray.files c.args.tray.now in
@@ -435,8 +493,8 @@ pub returns-in-Ok-Check-clause-begun : goal.returns-in-Ok-Check-clause-begun
 returns-in-Ok-Check-clause-begun g c =
     let words = texts_of c.args.words.now.items in
     let a = subst (λ x. IsActionFor x (job_of words)) c.in-Ok-Check.field-0-is c.in-Ok-Check.ensures in
-    let job = checking c.of.result c.in-Ok-Check.files in
-    let asks : job_of words ≡ job = a ∙ ap (λ tool. checking tool c.in-Ok-Check.files) (sym c.of.ensures) in
+    let job = checking c.of-in-Ok-Check.result c.in-Ok-Check.files in
+    let asks : job_of words ≡ job = a ∙ ap (λ tool. checking tool c.in-Ok-Check.files) (sym c.of-in-Ok-Check.ensures) in
     let names = texts_of c.as_slice-in-Ok-Check.result.now in
     let are = c.as_slice-in-Ok-Check.ensures in
     let told = g.T.Tray.files c.args.tray.now in
@@ -449,8 +507,8 @@ pub returns-in-Ok-Check-clause-untouched : goal.returns-in-Ok-Check-clause-untou
 returns-in-Ok-Check-clause-untouched g c =
     let words = texts_of c.args.words.now.items in
     let a = subst (λ x. IsActionFor x (job_of words)) c.in-Ok-Check.field-0-is c.in-Ok-Check.ensures in
-    let job = checking c.of.result c.in-Ok-Check.files in
-    let asks : job_of words ≡ job = a ∙ ap (λ tool. checking tool c.in-Ok-Check.files) (sym c.of.ensures) in
+    let job = checking c.of-in-Ok-Check.result c.in-Ok-Check.files in
+    let asks : job_of words ≡ job = a ∙ ap (λ tool. checking tool c.in-Ok-Check.files) (sym c.of-in-Ok-Check.ensures) in
     let names = texts_of c.as_slice-in-Ok-Check.result.now in
     let are = c.as_slice-in-Ok-Check.ensures in
     let told = g.T.Tray.files c.args.tray.now in
@@ -463,8 +521,8 @@ pub returns-in-Ok-Check-clause-statuses : goal.returns-in-Ok-Check-clause-status
 returns-in-Ok-Check-clause-statuses g c =
     let words = texts_of c.args.words.now.items in
     let a = subst (λ x. IsActionFor x (job_of words)) c.in-Ok-Check.field-0-is c.in-Ok-Check.ensures in
-    let job = checking c.of.result c.in-Ok-Check.files in
-    let asks : job_of words ≡ job = a ∙ ap (λ tool. checking tool c.in-Ok-Check.files) (sym c.of.ensures) in
+    let job = checking c.of-in-Ok-Check.result c.in-Ok-Check.files in
+    let asks : job_of words ≡ job = a ∙ ap (λ tool. checking tool c.in-Ok-Check.files) (sym c.of-in-Ok-Check.ensures) in
     let names = texts_of c.as_slice-in-Ok-Check.result.now in
     let are = c.as_slice-in-Ok-Check.ensures in
     let told = g.T.Tray.files c.args.tray.now in

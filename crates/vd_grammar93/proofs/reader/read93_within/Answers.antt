@@ -9,7 +9,7 @@ use Rattle.vd_valid_shapes.proofs.ReadingLemmas.{same_designs, same_shape}
 use Rattle.vd_grammar93.specs.Grammar.{grammar, actions}
 use Rattle.vd_grammar93.proofs.Checked.{checked, same}
 use Rattle.vd_grammar93.proofs.Valid.{designs}
-use Rattle.vd_grammar93.proofs.reader.read93.Goals as goal
+use Rattle.vd_grammar93.proofs.reader.read93_within.Goals as goal
 
 pub of-table-requires : goal.of-table-requires
 of-table-requires c = checked c.lists.result c.table.result c.lists.ensures (subst (λ l. IsListed l c.table.result) c.in_ok-rows.ensures c.table.ensures)
@@ -30,6 +30,6 @@ returns c =
     let is = same c.lists.result c.table.result c.lists.ensures (subst (λ l. IsListed l c.table.result) c.in_ok-rows.ensures c.table.ensures) in
     let one = subst (λ t. IsSameGrammar t grammar) (sym c.of-table.ensures) is in
     either c.read_design93.result _ _ _ _
-    (λ f h. same_shape say_the_same c.of-table.result.table grammar one actions c.args.tokens.now 2000 f h)
-    (λ e h. same_end say_the_same c.of-table.result.table grammar one c.args.tokens.now 2000 e h)
+    (λ f h. same_shape say_the_same c.of-table.result.table grammar one actions c.args.tokens.now c.args.deep f h)
+    (λ e h. same_end say_the_same c.of-table.result.table grammar one c.args.tokens.now c.args.deep e h)
     c.read_design93.ensures

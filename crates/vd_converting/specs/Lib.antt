@@ -1,0 +1,4 @@
+pub mod Texts
+pub mod Conversions
+pub mod Dues
+pub mod Sameness
