@@ -32,10 +32,8 @@ show_place() {
 # What a rule that breaks says in the mode `convert` beside what docs/RULES.md says of `check`.
 tell_conversion() {
     case $1 in
-        101 | 201 | 303)
-            say "convert takes the first language alone, and this may well be right elsewhere: $root/docs/LANGUAGE.md, \"The first language\"" ;;
         199)
-            say "this isn't converted yet: $root/docs/LANGUAGE.md, \"The first language\", has what is; check takes the whole profile" ;;
+            say "nothing is wrong with the files, but the design isn't converted yet: $root/docs/LANGUAGE.md, \"What convert takes and writes\", has what is" ;;
     esac
 }
 
