@@ -1,5 +1,5 @@
 -- What is said of files that are to be converted: there is something, it is determined but where they break no rule, and what its status says.
-use Rattle.std.proofs.Common.{◌≡◌, ◌<◌, ◌≤◌, ◌⊎◌, ◌×◌, ℕ, List, length, Option, Some, None, refl, sym, ap, ◌∙◌, subst, arith, inl, inr}
+use Rattle.std.proofs.Common.{◌≡◌, ◌<◌, ◌≤◌, ◌⊎◌, ℕ, List, Option, Some, None, refl, sym, ap, ◌∙◌, subst, inl, inr}
 use Rattle.std.proofs.lemmas.Bool.{cases_lt}
 use Rattle.vd_accepting.specs.Phases.{first_broken}
 use Rattle.vd_bytes.specs.declared.answers.Limit.{Limit}
@@ -12,11 +12,11 @@ use Rattle.vd_design_files.specs.Laws.{HasOneAnswer, HasSomeAnswer}
 use Rattle.vd_directives.specs.declared.selected.Line.{Line}
 use Rattle.vd_forest.specs.Forest.{Forest, tree_count}
 use Rattle.vd_forms.specs.declared.form.Form.{Form}
-use Rattle.vd_program.specs.Dues.{Due, limit_number, limit_passed}
+use Rattle.vd_program.specs.Dues.{Due, limit_passed}
 use Rattle.vd_trees.specs.declared.revision.Revision.TheVariants.{V2019}
 use Rattle.vd_trees.specs.declared.rows.Row.{Row}
 use Rattle.vd_converting.specs.Conversions.{weight, unconverted, IsRefusedIn, IsRefused, IsBeyond, AreConverted}
-use Rattle.vd_converting.specs.Dues.{conversion, console_of, MayBeConverted, SaysConversion}
+use Rattle.vd_converting.specs.Dues.{conversion, MayBeConverted, SaysConversion}
 use Rattle.vd_converting.specs.Texts.{IsIn93}
 
 -- ---- statuses
@@ -55,11 +55,11 @@ one_refused tool names contents due (SaysConversion.converts design rows units w
 -- ---- what is determined
 
 -- what is due where files break a rule or pass a limit
-settled_in : List (List ℕ) → Option Refused → Due
+abbrev settled_in : List (List ℕ) → Option Refused → Due
 settled_in names (Some x) = refusal_in names x
 settled_in names None = limit_passed limits.Nodes
 
-settled : List (List ℕ) → Answer → Due
+abbrev settled : List (List ℕ) → Answer → Due
 settled names (refused x) = refusal_in names x
 settled names (beyond limit) = limit_passed limit
 settled names (holds units warnings) = settled_in names (first_broken V2019 units)

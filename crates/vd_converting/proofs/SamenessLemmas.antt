@@ -1,4 +1,4 @@
--- A comparison ends. No name has a dash, so that a caller can name each in `#[tactic(auto, using(..))]`.
+-- A comparison ends.
 use Rattle.std.proofs.Common.{◌≡◌, ◌<◌, ℕ, ◌+◌, ◌*◌, List, [], ◌∷◌, ◌++◌, refl, ap, ◌∙◌, arith}
 use Rattle.std.specs.Prelude.{Some, option_to_list}
 use Rattle.vd_bytes.specs.declared.places.Place.{Place}
@@ -24,5 +24,3 @@ compared_fewer f parts next form text place old between new p q opened behind in
 
 pub left_fewer : (round rest new : List Pair) (p : Pair) → round ≡ rest ++ option_to_list (Some p) → work new < work rest + (2 * size p.left + 1) → work new < work round
 left_fewer round rest new p popped fewer = let a = ap work popped ∙ work_last rest p in omega (arith, a)
-
-pub ruleset comparing = (compared_fewer, left_fewer)

@@ -2,7 +2,7 @@
 use Rattle.std.specs.Prelude.{◌≡◌, ◌<◌, ◌≤◌, ℕ, List, ◌∷◌, [], ◌++◌, length, codes}
 use Rattle.std.specs.Fmt.{decimal}
 use Rattle.vd_bytes.specs.declared.answers.Limit.{Limit}
-use Rattle.vd_bytes.specs.declared.answers.Limit.TheVariants as limits
+use Rattle.vd_bytes.specs.declared.answers.Limit.TheVariants as limit_of
 use Rattle.vd_bytes.specs.declared.answers.Refused.{Refused}
 use Rattle.vd_checking.specs.Checks.{refusal_in, warnings_from}
 use Rattle.vd_directives.specs.declared.selected.Line.{Line}
@@ -34,7 +34,7 @@ pub data SaysConversion (tool : List ℕ) (names contents : List (List ℕ)) (du
   refuses : (x : Refused) → IsRefused tool contents x → due ≡ refusal_in names x → SaysConversion tool names contents due
   limits : (limit : Limit) → IsBeyond tool contents limit → due ≡ limit_passed limit → SaysConversion tool names contents due
   is_long : (units rows : ℕ) (warnings : List (List Line)) → AreConverted tool contents units warnings
-      → limit_number limits.Output < length (console_of names warnings units rows) → due ≡ limit_passed limits.Output → SaysConversion tool names contents due
+      → limit_number limit_of.Output < length (console_of names warnings units rows) → due ≡ limit_passed limit_of.Output → SaysConversion tool names contents due
   converts : (design : List ℕ) (rows : List Row) (units : ℕ) (warnings : List (List Line)) → AreConverted tool contents units warnings → IsIn93 design
-      → length (console_of names warnings units (length rows)) ≤ limit_number limits.Output
+      → length (console_of names warnings units (length rows)) ≤ limit_number limit_of.Output
       → due ≡ conversion names warnings design rows units → SaysConversion tool names contents due

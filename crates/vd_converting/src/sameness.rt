@@ -29,7 +29,6 @@ fn are_alike(left: &Opened<'_, Form>, right: &Opened<'_, Form>) -> bool {
 }
 
 /// Compares the first nodes of two forests, and leaves their parts and what stands behind them.
-#[tactic(auto, using(crate::proofs::SamenessLemmas::comparing))]
 fn compare_first<'a, 'b>(
     left: &Cursor<'a, Form>,
     right: &Cursor<'b, Form>,
@@ -58,7 +57,7 @@ fn compare_first<'a, 'b>(
 }
 
 /// Whether two forests have the same forms and texts.
-#[tactic(auto, using(crate::proofs::SamenessLemmas::comparing))]
+#[tactic(auto, using(crate::proofs::SamenessLemmas::left_fewer))]
 pub(crate) fn are_same(
     alloc: Global,
     left: &Cursor<'_, Form>,

@@ -1,6 +1,6 @@
 //! The mode `convert`, of any number of files.
 
-ghost use Rattle.std.specs.Prelude.{◌≡◌, ◌≤◌, ◌++◌, true, length, sum_by, IfOk, string_bytes};
+ghost use Rattle.std.specs.Prelude.{◌≡◌, ◌≤◌, ◌++◌, List, ℕ, true, length, sum_by, IfOk, string_bytes};
 ghost use Rattle.vd_bytes.specs.declared.answers.Limit.TheVariants as limits;
 ghost use Rattle.vd_checking.specs.Checks.{warnings_from};
 ghost use Rattle.vd_program.specs.Dues.{limit_number};

@@ -63,6 +63,43 @@ fn behind(out: &Store<Resolved>, number: u32) -> u32
     if number == 0 { 0 } else { out.after(number) }
 }
 
+/// The parts of the first tree.
+fn inside(out: &Store<Resolved>, number: u32) -> u32
+    requires { number ≤ length out.now }
+    ensures { result ≤ length out.now }
+{
+    match out.head(number) {
+        Some(head) => head.parts,
+        None => 0,
+    }
+}
+
+/// The last of some trees.
+fn last_of(out: &Store<Resolved>, number: u32) -> u32
+    requires { number ≤ length out.now }
+    ensures { result ≤ length out.now }
+{
+    let mut last = number;
+    let mut left = number;
+    while left > 0 {
+        last = left;
+        left = out.after(left);
+    }
+    last
+}
+
+/// What the formal of an association by name converts, as `f` in `t(f) => a`. The converted name is an expression, so that its word has the
+/// declaration.
+fn converted_formal(out: &Store<Resolved>, tree: u32) -> Option<DeclId>
+    requires { tree ≤ length out.now }
+{
+    let choices = association(out, tree)?;
+    let formal = inside(out, choices);
+    let list = last_of(out, inside(out, formal));
+    let name = inside(out, list);
+    declaration_of(&out.cursor(inside(out, name)))
+}
+
 /// Whether one of some trees is an association by name.
 fn names_some(out: &Store<Resolved>, number: u32) -> bool
     requires { number ≤ length out.now }
@@ -142,6 +179,23 @@ impl<'a> Associations<'a> {
         }
     }
 
+    /// The place of the formal that an association by name converts.
+    fn place_of_converted(
+        &self,
+        out: &Store<Resolved>,
+        formals: &[DeclId],
+        tree: u32,
+    ) -> Option<u32>
+        requires { tree ≤ length out.now }
+    {
+        let formal = converted_formal(out, tree)?;
+        let place = self.places.place(formal);
+        match formals.get(place as usize) {
+            Some(there) if there.number() == formal.number() => Some(place),
+            _ => None,
+        }
+    }
+
     /// An element of a map by name. The one at a place is by position.
     fn element_of_map(
         &self,
@@ -169,7 +223,10 @@ impl<'a> Associations<'a> {
                     tree,
                 })
             }
-            _ => Ok(Sorted { place: None, tree }),
+            _ => {
+                let place = self.place_of_converted(out, formals, tree);
+                Ok(Sorted { place, tree })
+            }
         }
     }
 
