@@ -11,10 +11,10 @@ use Rattle.vd_command.specs.Outcomes.{IsNotFirst}
 -- a file of which something else is said is none
 not_first : HasOneConversion → (content : List ℕ) (a : Answer) → IsConversion (plain_of 0 content) a
     → ((design : List ℕ) (rows : List Row) (units : ℕ) → a ≡ converted design rows units → ⊥) → IsNotFirst (content ∷ [])
-not_first one content a is no due x =
+not_first one content a is not_converted due x =
     let same : content ≡ x.content = let e = x.alone in cc in
     let other = subst (λ c. IsConversion (plain_of 0 c) a) same is in
-    no x.design x.rows x.units (one (plain_of 0 x.content) a (converted x.design x.rows x.units) other x.is)
+    not_converted x.design x.rows x.units (one (plain_of 0 x.content) a (converted x.design x.rows x.units) other x.is)
 
 pub refused_is_not_first : HasOneConversion → (content : List ℕ) (x : Refused) → IsConversion (plain_of 0 content) (refused x) → IsNotFirst (content ∷ [])
 refused_is_not_first one content x is = not_first one content (refused x) is (λ design rows units e. cc)

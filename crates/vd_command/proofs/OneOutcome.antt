@@ -1,14 +1,15 @@
 -- Words and files have one outcome.
-use Rattle.std.proofs.Common.{◌≡◌, ◌⊎◌, ◌×◌, ℕ, List, ◌∷◌, refl, sym, ap, ◌∙◌, subst, arith, inl, inr}
+use Rattle.std.proofs.Common.{◌≡◌, ◌⊎◌, ℕ, List, sym, ap, ◌∙◌, subst, arith, inl, inr}
 use Rattle.vd_checking.proofs.CheckLemmas.{check_one}
 use Rattle.vd_converting.proofs.ConversionLaws as whole
 use Rattle.vd_converting.specs.Dues.{MayBeConverted}
 use Rattle.vd_design_files.specs.Laws.{HasOneAnswer}
 use Rattle.vd_first_lex.specs.Lexings.{plain_of}
-use Rattle.vd_first_lower.specs.Conversions.{Answer, converted, IsConversion}
+use Rattle.vd_first_lower.specs.Conversions.{converted, IsConversion}
 use Rattle.vd_first_lower.specs.Steps.{HasOneConversion}
 use Rattle.vd_program.specs.Dues.{Due}
 use Rattle.vd_program.specs.Outcomes.{contents_of, IsFilesOutcome}
+use Rattle.vd_trees.specs.declared.rows.Row.{Row}
 use Rattle.vd_command.specs.Words.{Job, refusing, converting, checking, files_of, job_of}
 use Rattle.vd_command.specs.Outcomes.{conversion, IsFirst, IsNotFirst, Says, SaysConversion, AreOne, HasOneOutcome}
 
@@ -29,7 +30,7 @@ module _ (same : Due → Due → Type 0) (equal : (a b : Due) → a ≡ b → sa
 
 -- ---- conversions
 
-conversions_same : (d e : List ℕ) (rs ss : List Rattle.vd_trees.specs.declared.rows.Row.Row) (m n : ℕ) → converted d rs m ≡ converted e ss n → conversion d rs m ≡ conversion e ss n
+conversions_same : (d e : List ℕ) (rs ss : List Row) (m n : ℕ) → converted d rs m ≡ converted e ss n → conversion d rs m ≡ conversion e ss n
 conversions_same d e rs ss m n x =
     let design : d ≡ e = cc in
     let rows : rs ≡ ss = cc in

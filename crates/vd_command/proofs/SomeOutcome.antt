@@ -24,7 +24,6 @@ use Rattle.vd_first_lower.specs.Conversions.{Answer, refused, beyond, converted,
 use Rattle.vd_first_lower.specs.Steps.{HasOneConversion}
 use Rattle.vd_checking.proofs.CheckLemmas.{check_some}
 use Rattle.vd_converting.proofs.ConversionLaws.{conversion_some}
-use Rattle.vd_trees.specs.declared.rows.Row.{Row}
 use Rattle.vd_design_files.specs.Laws.{HasSomeAnswer}
 use Rattle.vd_program.specs.Dues.{Due, refused_words, limit_number, limit_passed}
 use Rattle.vd_program.specs.Outcomes.{contents_of, total_length, IsFilesOutcome}
@@ -70,11 +69,10 @@ module _ (one_conversion : HasOneConversion) (some_answer : HasSomeAnswer) (tool
   of_content : (content : List ℕ) (a : Answer) → IsConversion (plain_of 0 content) a → (due : Due) × SaysConversion tool names (content ∷ []) due
   of_content content (refused x) is = whole (content ∷ []) (refused_is_not_first one_conversion content x is)
   of_content content (beyond limit) is = whole (content ∷ []) (beyond_is_not_first one_conversion content limit is)
-  of_content content (converted design rows units) is =
-      (
-        conversion design rows units,
-        SaysConversion.first (record { content = content; alone = refl; design = design; rows = rows; units = units; is = is; due_is = refl }),
-      )
+  of_content content (converted design rows units) is = (
+    conversion design rows units,
+    SaysConversion.first (record { content = content; alone = refl; design = design; rows = rows; units = units; is = is; due_is = refl }),
+  )
 
   some_said_of : (contents : List (List ℕ)) → (due : Due) × SaysConversion tool names contents due
   some_said_of [] = whole [] none_is_not_first

@@ -16,8 +16,7 @@ use Rattle.vd_first_names.specs.Maps.{map_text_of}
 use Rattle.vd_first_lower.specs.Headline.{IsText, IsFaithful}
 use Rattle.vd_program.specs.Dues.{limit_number}
 use Rattle.vd_program.specs.Outcomes.{contents_of, total_length}
-use Rattle.vd_checking.specs.Checks.{MeetsRules}
-use Rattle.vd_checking.specs.Checks.{refusal_in}
+use Rattle.vd_checking.specs.Checks.{MeetsRules, refusal_in}
 use Rattle.vd_directives.specs.declared.selected.Line.{Line}
 use Rattle.vd_bytes.specs.declared.answers.Refused.{Refused}
 use Rattle.vd_converting.specs.Conversions.{AreConverted, IsRefused}
@@ -35,7 +34,6 @@ pub record GotConversion {S : Type 0} (written : S → Channel → Option (List 
   pub on_map : Appends (written old Map) (written new Map) (map_text_of rows)
   pub on_console : Appends (written old Console) (written new Console) (conversion_line 2 (length rows))
   pub faithful : IsFaithful (plain_of 0 content) design rows
-
 
 -- no count of faults rose that has to do with these words. The first two arguments say what the counts are
 pub record HasNoFault {S : Type 0} (read_faults : S → List ℕ → ℕ) (write_faults : S → ℕ) (old new : S) (words : List (List ℕ)) : Type 0 where

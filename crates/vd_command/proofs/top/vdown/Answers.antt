@@ -1,5 +1,4 @@
-use Rattle.std.proofs.Common.{◌≡◌, sym, ap, ◌∙◌, subst, inl, length, string_bytes}
-use Rattle.std.proofs.lemmas.List.{length-map}
+use Rattle.std.proofs.Common.{◌≡◌, sym, ap, ◌∙◌, subst, inl, inr}
 use Rattle.vd_design_files.proofs.AnswerLaws.{one_answer}
 use Rattle.vd_program.specs.Dues.{refused_words}
 use Rattle.vd_program.specs.Endings.{GotAll}
@@ -19,11 +18,11 @@ returns-in-Ok-Convert-clause-completed g c =
     let are = c.as_slice.ensures in
     let told = g.T.Tray.files c.args.tray.now in
     let old = c.args.tray.now in
-    let new = c.perform.new.tray in
-    let status = c.perform.result in
-    let completes = by_names words job asks names are (Completes g.T.Tray.read_faults g.T.Tray.write_faults g.T.Tray.written old new told words status) c.perform.ensures.completed in
-    let faults = by_names words job asks names are (Faults g.T.Tray.read_faults g.T.Tray.write_faults g.T.Tray.written old new told words status) c.perform.ensures.read_fault in
-    as_completed g.T.Tray.read_faults g.T.Tray.write_faults g.T.Tray.written old new told words status completes faults c.perform.ensures.write_fault
+    let new = c.perform-in-Ok-Convert.new.tray in
+    let status = c.perform-in-Ok-Convert.result in
+    let completes = by_names words job asks names are (Completes g.T.Tray.read_faults g.T.Tray.write_faults g.T.Tray.written old new told words status) c.perform-in-Ok-Convert.ensures.completed in
+    let faults = by_names words job asks names are (Faults g.T.Tray.read_faults g.T.Tray.write_faults g.T.Tray.written old new told words status) c.perform-in-Ok-Convert.ensures.read_fault in
+    as_completed g.T.Tray.read_faults g.T.Tray.write_faults g.T.Tray.written old new told words status completes faults c.perform-in-Ok-Convert.ensures.write_fault
 
 pub returns-in-Ok-Convert-clause-headline : goal.returns-in-Ok-Convert-clause-headline
 returns-in-Ok-Convert-clause-headline g c =
@@ -35,11 +34,11 @@ returns-in-Ok-Convert-clause-headline g c =
     let are = c.as_slice.ensures in
     let told = g.T.Tray.files c.args.tray.now in
     let old = c.args.tray.now in
-    let new = c.perform.new.tray in
-    let status = c.perform.result in
-    let completes = by_names words job asks names are (Completes g.T.Tray.read_faults g.T.Tray.write_faults g.T.Tray.written old new told words status) c.perform.ensures.completed in
-    let faults = by_names words job asks names are (Faults g.T.Tray.read_faults g.T.Tray.write_faults g.T.Tray.written old new told words status) c.perform.ensures.read_fault in
-    λ done. completed_converts g.T.Tray.written old new told words status (as_completed g.T.Tray.read_faults g.T.Tray.write_faults g.T.Tray.written old new told words status completes faults c.perform.ensures.write_fault (inl done)) done
+    let new = c.perform-in-Ok-Convert.new.tray in
+    let status = c.perform-in-Ok-Convert.result in
+    let completes = by_names words job asks names are (Completes g.T.Tray.read_faults g.T.Tray.write_faults g.T.Tray.written old new told words status) c.perform-in-Ok-Convert.ensures.completed in
+    let faults = by_names words job asks names are (Faults g.T.Tray.read_faults g.T.Tray.write_faults g.T.Tray.written old new told words status) c.perform-in-Ok-Convert.ensures.read_fault in
+    λ done. completed_converts g.T.Tray.written old new told words status (as_completed g.T.Tray.read_faults g.T.Tray.write_faults g.T.Tray.written old new told words status completes faults c.perform-in-Ok-Convert.ensures.write_fault (inl done)) done
 
 pub returns-in-Ok-Convert-clause-converts : goal.returns-in-Ok-Convert-clause-converts
 returns-in-Ok-Convert-clause-converts g c =
@@ -51,11 +50,11 @@ returns-in-Ok-Convert-clause-converts g c =
     let are = c.as_slice.ensures in
     let told = g.T.Tray.files c.args.tray.now in
     let old = c.args.tray.now in
-    let new = c.perform.new.tray in
-    let status = c.perform.result in
-    let completes = by_names words job asks names are (Completes g.T.Tray.read_faults g.T.Tray.write_faults g.T.Tray.written old new told words status) c.perform.ensures.completed in
-    let faults = by_names words job asks names are (Faults g.T.Tray.read_faults g.T.Tray.write_faults g.T.Tray.written old new told words status) c.perform.ensures.read_fault in
-    λ done. completed_writes g.T.Tray.written old new told words status (as_completed g.T.Tray.read_faults g.T.Tray.write_faults g.T.Tray.written old new told words status completes faults c.perform.ensures.write_fault (inl done)) done
+    let new = c.perform-in-Ok-Convert.new.tray in
+    let status = c.perform-in-Ok-Convert.result in
+    let completes = by_names words job asks names are (Completes g.T.Tray.read_faults g.T.Tray.write_faults g.T.Tray.written old new told words status) c.perform-in-Ok-Convert.ensures.completed in
+    let faults = by_names words job asks names are (Faults g.T.Tray.read_faults g.T.Tray.write_faults g.T.Tray.written old new told words status) c.perform-in-Ok-Convert.ensures.read_fault in
+    λ done. completed_writes g.T.Tray.written old new told words status (as_completed g.T.Tray.read_faults g.T.Tray.write_faults g.T.Tray.written old new told words status completes faults c.perform-in-Ok-Convert.ensures.write_fault (inl done)) done
 
 pub returns-in-Ok-Convert-clause-refuses : goal.returns-in-Ok-Convert-clause-refuses
 returns-in-Ok-Convert-clause-refuses g c =
@@ -67,11 +66,11 @@ returns-in-Ok-Convert-clause-refuses g c =
     let are = c.as_slice.ensures in
     let told = g.T.Tray.files c.args.tray.now in
     let old = c.args.tray.now in
-    let new = c.perform.new.tray in
-    let status = c.perform.result in
-    let completes = by_names words job asks names are (Completes g.T.Tray.read_faults g.T.Tray.write_faults g.T.Tray.written old new told words status) c.perform.ensures.completed in
-    let faults = by_names words job asks names are (Faults g.T.Tray.read_faults g.T.Tray.write_faults g.T.Tray.written old new told words status) c.perform.ensures.read_fault in
-    λ done. completed_refuses g.T.Tray.written old new told words status (as_completed g.T.Tray.read_faults g.T.Tray.write_faults g.T.Tray.written old new told words status completes faults c.perform.ensures.write_fault (inr (inl done))) done
+    let new = c.perform-in-Ok-Convert.new.tray in
+    let status = c.perform-in-Ok-Convert.result in
+    let completes = by_names words job asks names are (Completes g.T.Tray.read_faults g.T.Tray.write_faults g.T.Tray.written old new told words status) c.perform-in-Ok-Convert.ensures.completed in
+    let faults = by_names words job asks names are (Faults g.T.Tray.read_faults g.T.Tray.write_faults g.T.Tray.written old new told words status) c.perform-in-Ok-Convert.ensures.read_fault in
+    λ done. completed_refuses g.T.Tray.written old new told words status (as_completed g.T.Tray.read_faults g.T.Tray.write_faults g.T.Tray.written old new told words status completes faults c.perform-in-Ok-Convert.ensures.write_fault (inr (inl done))) done
 
 pub returns-in-Ok-Convert-clause-complete : goal.returns-in-Ok-Convert-clause-complete
 returns-in-Ok-Convert-clause-complete g c =
@@ -83,11 +82,11 @@ returns-in-Ok-Convert-clause-complete g c =
     let are = c.as_slice.ensures in
     let told = g.T.Tray.files c.args.tray.now in
     let old = c.args.tray.now in
-    let new = c.perform.new.tray in
-    let status = c.perform.result in
-    let completes = by_names words job asks names are (Completes g.T.Tray.read_faults g.T.Tray.write_faults g.T.Tray.written old new told words status) c.perform.ensures.completed in
-    let faults = by_names words job asks names are (Faults g.T.Tray.read_faults g.T.Tray.write_faults g.T.Tray.written old new told words status) c.perform.ensures.read_fault in
-    as_complete g.T.Tray.read_faults g.T.Tray.write_faults g.T.Tray.written old new told words status completes faults c.perform.ensures.write_fault
+    let new = c.perform-in-Ok-Convert.new.tray in
+    let status = c.perform-in-Ok-Convert.result in
+    let completes = by_names words job asks names are (Completes g.T.Tray.read_faults g.T.Tray.write_faults g.T.Tray.written old new told words status) c.perform-in-Ok-Convert.ensures.completed in
+    let faults = by_names words job asks names are (Faults g.T.Tray.read_faults g.T.Tray.write_faults g.T.Tray.written old new told words status) c.perform-in-Ok-Convert.ensures.read_fault in
+    as_complete g.T.Tray.read_faults g.T.Tray.write_faults g.T.Tray.written old new told words status completes faults c.perform-in-Ok-Convert.ensures.write_fault
 
 pub returns-in-Ok-Convert-clause-accepts : goal.returns-in-Ok-Convert-clause-accepts
 returns-in-Ok-Convert-clause-accepts g c =
@@ -99,13 +98,13 @@ returns-in-Ok-Convert-clause-accepts g c =
     let are = c.as_slice.ensures in
     let told = g.T.Tray.files c.args.tray.now in
     let old = c.args.tray.now in
-    let new = c.perform.new.tray in
-    let status = c.perform.result in
-    let completes = by_names words job asks names are (Completes g.T.Tray.read_faults g.T.Tray.write_faults g.T.Tray.written old new told words status) c.perform.ensures.completed in
-    let faults = by_names words job asks names are (Faults g.T.Tray.read_faults g.T.Tray.write_faults g.T.Tray.written old new told words status) c.perform.ensures.read_fault in
+    let new = c.perform-in-Ok-Convert.new.tray in
+    let status = c.perform-in-Ok-Convert.result in
+    let completes = by_names words job asks names are (Completes g.T.Tray.read_faults g.T.Tray.write_faults g.T.Tray.written old new told words status) c.perform-in-Ok-Convert.ensures.completed in
+    let faults = by_names words job asks names are (Faults g.T.Tray.read_faults g.T.Tray.write_faults g.T.Tray.written old new told words status) c.perform-in-Ok-Convert.ensures.read_fault in
     λ none enough.
     completed_accepts told words status (GotAll g.T.Tray.written old new)
-    (as_completed g.T.Tray.read_faults g.T.Tray.write_faults g.T.Tray.written old new told words status completes faults c.perform.ensures.write_fault (as_complete g.T.Tray.read_faults g.T.Tray.write_faults g.T.Tray.written old new told words status completes faults c.perform.ensures.write_fault none enough))
+    (as_completed g.T.Tray.read_faults g.T.Tray.write_faults g.T.Tray.written old new told words status completes faults c.perform-in-Ok-Convert.ensures.write_fault (as_complete g.T.Tray.read_faults g.T.Tray.write_faults g.T.Tray.written old new told words status completes faults c.perform-in-Ok-Convert.ensures.write_fault none enough))
 
 pub returns-in-Ok-Convert-clause-checks : goal.returns-in-Ok-Convert-clause-checks
 returns-in-Ok-Convert-clause-checks g c =
@@ -117,13 +116,13 @@ returns-in-Ok-Convert-clause-checks g c =
     let are = c.as_slice.ensures in
     let told = g.T.Tray.files c.args.tray.now in
     let old = c.args.tray.now in
-    let new = c.perform.new.tray in
-    let status = c.perform.result in
-    let completes = by_names words job asks names are (Completes g.T.Tray.read_faults g.T.Tray.write_faults g.T.Tray.written old new told words status) c.perform.ensures.completed in
-    let faults = by_names words job asks names are (Faults g.T.Tray.read_faults g.T.Tray.write_faults g.T.Tray.written old new told words status) c.perform.ensures.read_fault in
+    let new = c.perform-in-Ok-Convert.new.tray in
+    let status = c.perform-in-Ok-Convert.result in
+    let completes = by_names words job asks names are (Completes g.T.Tray.read_faults g.T.Tray.write_faults g.T.Tray.written old new told words status) c.perform-in-Ok-Convert.ensures.completed in
+    let faults = by_names words job asks names are (Faults g.T.Tray.read_faults g.T.Tray.write_faults g.T.Tray.written old new told words status) c.perform-in-Ok-Convert.ensures.read_fault in
     λ none enough.
     completed_checks one_answer told words status (GotAll g.T.Tray.written old new)
-    (as_completed g.T.Tray.read_faults g.T.Tray.write_faults g.T.Tray.written old new told words status completes faults c.perform.ensures.write_fault (as_complete g.T.Tray.read_faults g.T.Tray.write_faults g.T.Tray.written old new told words status completes faults c.perform.ensures.write_fault none enough))
+    (as_completed g.T.Tray.read_faults g.T.Tray.write_faults g.T.Tray.written old new told words status completes faults c.perform-in-Ok-Convert.ensures.write_fault (as_complete g.T.Tray.read_faults g.T.Tray.write_faults g.T.Tray.written old new told words status completes faults c.perform-in-Ok-Convert.ensures.write_fault none enough))
 
 pub returns-in-Ok-Convert-clause-legal : goal.returns-in-Ok-Convert-clause-legal
 returns-in-Ok-Convert-clause-legal g c =
@@ -135,11 +134,11 @@ returns-in-Ok-Convert-clause-legal g c =
     let are = c.as_slice.ensures in
     let told = g.T.Tray.files c.args.tray.now in
     let old = c.args.tray.now in
-    let new = c.perform.new.tray in
-    let status = c.perform.result in
-    let completes = by_names words job asks names are (Completes g.T.Tray.read_faults g.T.Tray.write_faults g.T.Tray.written old new told words status) c.perform.ensures.completed in
-    let faults = by_names words job asks names are (Faults g.T.Tray.read_faults g.T.Tray.write_faults g.T.Tray.written old new told words status) c.perform.ensures.read_fault in
-    λ done. completed_legal told words status (GotAll g.T.Tray.written old new) (as_completed g.T.Tray.read_faults g.T.Tray.write_faults g.T.Tray.written old new told words status completes faults c.perform.ensures.write_fault (inl done)) done
+    let new = c.perform-in-Ok-Convert.new.tray in
+    let status = c.perform-in-Ok-Convert.result in
+    let completes = by_names words job asks names are (Completes g.T.Tray.read_faults g.T.Tray.write_faults g.T.Tray.written old new told words status) c.perform-in-Ok-Convert.ensures.completed in
+    let faults = by_names words job asks names are (Faults g.T.Tray.read_faults g.T.Tray.write_faults g.T.Tray.written old new told words status) c.perform-in-Ok-Convert.ensures.read_fault in
+    λ done. completed_legal told words status (GotAll g.T.Tray.written old new) (as_completed g.T.Tray.read_faults g.T.Tray.write_faults g.T.Tray.written old new told words status completes faults c.perform-in-Ok-Convert.ensures.write_fault (inl done)) done
 
 pub returns-in-Ok-Convert-clause-words : goal.returns-in-Ok-Convert-clause-words
 returns-in-Ok-Convert-clause-words g c =
@@ -151,9 +150,9 @@ returns-in-Ok-Convert-clause-words g c =
     let are = c.as_slice.ensures in
     let told = g.T.Tray.files c.args.tray.now in
     let old = c.args.tray.now in
-    let new = c.perform.new.tray in
-    let status = c.perform.result in
-    λ two. absurd (c.perform.ensures.no_words two)
+    let new = c.perform-in-Ok-Convert.new.tray in
+    let status = c.perform-in-Ok-Convert.result in
+    λ two. absurd (c.perform-in-Ok-Convert.ensures.no_words two)
 
 pub returns-in-Ok-Convert-clause-not_taken : goal.returns-in-Ok-Convert-clause-not_taken
 returns-in-Ok-Convert-clause-not_taken g c =
@@ -165,8 +164,8 @@ returns-in-Ok-Convert-clause-not_taken g c =
     let are = c.as_slice.ensures in
     let told = g.T.Tray.files c.args.tray.now in
     let old = c.args.tray.now in
-    let new = c.perform.new.tray in
-    let status = c.perform.result in
+    let new = c.perform-in-Ok-Convert.new.tray in
+    let status = c.perform-in-Ok-Convert.result in
     λ none. absurd (let e = sym none ∙ asks in cc)
 
 pub returns-in-Ok-Convert-clause-read_fault : goal.returns-in-Ok-Convert-clause-read_fault
@@ -179,9 +178,9 @@ returns-in-Ok-Convert-clause-read_fault g c =
     let are = c.as_slice.ensures in
     let told = g.T.Tray.files c.args.tray.now in
     let old = c.args.tray.now in
-    let new = c.perform.new.tray in
-    let status = c.perform.result in
-    by_names words job asks names are (Faults g.T.Tray.read_faults g.T.Tray.write_faults g.T.Tray.written old new told words status) c.perform.ensures.read_fault
+    let new = c.perform-in-Ok-Convert.new.tray in
+    let status = c.perform-in-Ok-Convert.result in
+    by_names words job asks names are (Faults g.T.Tray.read_faults g.T.Tray.write_faults g.T.Tray.written old new told words status) c.perform-in-Ok-Convert.ensures.read_fault
 
 pub returns-in-Ok-Convert-clause-fronts : goal.returns-in-Ok-Convert-clause-fronts
 returns-in-Ok-Convert-clause-fronts g c =
@@ -193,10 +192,10 @@ returns-in-Ok-Convert-clause-fronts g c =
     let are = c.as_slice.ensures in
     let told = g.T.Tray.files c.args.tray.now in
     let old = c.args.tray.now in
-    let new = c.perform.new.tray in
-    let status = c.perform.result in
+    let new = c.perform-in-Ok-Convert.new.tray in
+    let status = c.perform-in-Ok-Convert.result in
     λ four.
-    let x = c.perform.ensures.fronts four in
+    let x = c.perform-in-Ok-Convert.ensures.fronts four in
     (x.0, by_names words job asks names are (λ says w ns. IsDueOrReadFault g.T.Tray.read_faults old new says told ns x.0) x.1, x.2, x.3, λ ne. x.4 (λ w. ne (job_writes words job asks x.0.status w)))
 
 pub returns-in-Ok-Convert-clause-no_design : goal.returns-in-Ok-Convert-clause-no_design
@@ -209,9 +208,9 @@ returns-in-Ok-Convert-clause-no_design g c =
     let are = c.as_slice.ensures in
     let told = g.T.Tray.files c.args.tray.now in
     let old = c.args.tray.now in
-    let new = c.perform.new.tray in
-    let status = c.perform.result in
-    λ ne. c.perform.ensures.no_design (λ w. ne (job_writes words job asks status w))
+    let new = c.perform-in-Ok-Convert.new.tray in
+    let status = c.perform-in-Ok-Convert.result in
+    λ ne. c.perform-in-Ok-Convert.ensures.no_design (λ w. ne (job_writes words job asks status w))
 
 pub returns-in-Ok-Convert-clause-no_map : goal.returns-in-Ok-Convert-clause-no_map
 returns-in-Ok-Convert-clause-no_map g c =
@@ -223,9 +222,9 @@ returns-in-Ok-Convert-clause-no_map g c =
     let are = c.as_slice.ensures in
     let told = g.T.Tray.files c.args.tray.now in
     let old = c.args.tray.now in
-    let new = c.perform.new.tray in
-    let status = c.perform.result in
-    λ ne. c.perform.ensures.no_map (λ w. ne (job_writes words job asks status w))
+    let new = c.perform-in-Ok-Convert.new.tray in
+    let status = c.perform-in-Ok-Convert.result in
+    λ ne. c.perform-in-Ok-Convert.ensures.no_map (λ w. ne (job_writes words job asks status w))
 
 pub returns-in-Ok-Convert-clause-begun : goal.returns-in-Ok-Convert-clause-begun
 returns-in-Ok-Convert-clause-begun g c =
@@ -237,9 +236,9 @@ returns-in-Ok-Convert-clause-begun g c =
     let are = c.as_slice.ensures in
     let told = g.T.Tray.files c.args.tray.now in
     let old = c.args.tray.now in
-    let new = c.perform.new.tray in
-    let status = c.perform.result in
-    λ w. c.perform.ensures.begun (words_write words job asks status w)
+    let new = c.perform-in-Ok-Convert.new.tray in
+    let status = c.perform-in-Ok-Convert.result in
+    λ w. c.perform-in-Ok-Convert.ensures.begun (words_write words job asks status w)
 
 pub returns-in-Ok-Convert-clause-untouched : goal.returns-in-Ok-Convert-clause-untouched
 returns-in-Ok-Convert-clause-untouched g c =
@@ -251,9 +250,9 @@ returns-in-Ok-Convert-clause-untouched g c =
     let are = c.as_slice.ensures in
     let told = g.T.Tray.files c.args.tray.now in
     let old = c.args.tray.now in
-    let new = c.perform.new.tray in
-    let status = c.perform.result in
-    λ ne. c.perform.ensures.untouched (λ w. ne (job_writes words job asks status w))
+    let new = c.perform-in-Ok-Convert.new.tray in
+    let status = c.perform-in-Ok-Convert.result in
+    λ ne. c.perform-in-Ok-Convert.ensures.untouched (λ w. ne (job_writes words job asks status w))
 
 pub returns-in-Ok-Convert-clause-statuses : goal.returns-in-Ok-Convert-clause-statuses
 returns-in-Ok-Convert-clause-statuses g c =
@@ -265,11 +264,11 @@ returns-in-Ok-Convert-clause-statuses g c =
     let are = c.as_slice.ensures in
     let told = g.T.Tray.files c.args.tray.now in
     let old = c.args.tray.now in
-    let new = c.perform.new.tray in
-    let status = c.perform.result in
-    let completes = by_names words job asks names are (Completes g.T.Tray.read_faults g.T.Tray.write_faults g.T.Tray.written old new told words status) c.perform.ensures.completed in
-    let faults = by_names words job asks names are (Faults g.T.Tray.read_faults g.T.Tray.write_faults g.T.Tray.written old new told words status) c.perform.ensures.read_fault in
-    below_seven g.T.Tray.read_faults g.T.Tray.write_faults g.T.Tray.written old new told words status completes faults c.perform.ensures.write_fault
+    let new = c.perform-in-Ok-Convert.new.tray in
+    let status = c.perform-in-Ok-Convert.result in
+    let completes = by_names words job asks names are (Completes g.T.Tray.read_faults g.T.Tray.write_faults g.T.Tray.written old new told words status) c.perform-in-Ok-Convert.ensures.completed in
+    let faults = by_names words job asks names are (Faults g.T.Tray.read_faults g.T.Tray.write_faults g.T.Tray.written old new told words status) c.perform-in-Ok-Convert.ensures.read_fault in
+    below_seven g.T.Tray.read_faults g.T.Tray.write_faults g.T.Tray.written old new told words status completes faults c.perform-in-Ok-Convert.ensures.write_fault
 
 pub returns-in-Ok-Check-clause-completed : goal.returns-in-Ok-Check-clause-completed
 returns-in-Ok-Check-clause-completed g c =
