@@ -14,7 +14,6 @@ use vd_static_names::FieldTable;
 use vd_value_rules::IndicatedForm;
 
 /// The part with a number.
-
 pub(crate) fn part(subtypes: &Store<IndicatedForm>, parts: &[Measured], number: usize) -> Measured
     requires { All (IsMeasuredWithin subtypes.now) parts.now }
     ensures within { IsMeasuredWithin subtypes.now result }

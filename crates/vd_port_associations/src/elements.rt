@@ -18,7 +18,6 @@ use vd_port_modes::Interfaces;
 use vd_walks::lesser;
 
 /// One pair more, where it isn't there.
-
 fn add_pair(pairs: &mut IndexSet<Pair>, pair: Pair) -> Result<(), AllocError>
     ensures { OnOk result ((n : ℕ) (d : Design) (place : AnyPlace) → first_rule place (all_rules n d pairs.new.keys)
         ≡ lesser_of_two (first_rule place (all_rules n d pairs.old.keys)) (first_rule place (pair_rules n d pair))) }
