@@ -96,12 +96,18 @@ fn given_names(alloc: Global) -> Result<Names, AllocError> {
     Ok(names)
 }
 
-/// The other declarations of so many numbers, where those that both revisions share are written.
-fn shared_links(alloc: Global, count: usize) -> Result<Vec<Option<DeclId>>, AllocError> {
+/// Those of the given declarations, each to itself.
+fn own_links(alloc: Global) -> Result<Vec<Option<DeclId>>, AllocError> {
     let mut link: Vec<Option<DeclId>> = Vec::new(alloc);
     for number in 0..SHARED {
         link.push(Some(DeclId::of(number)))?;
     }
+    Ok(link)
+}
+
+/// The other declarations of so many numbers, where those that both revisions share are written.
+fn shared_links(alloc: Global, count: usize) -> Result<Vec<Option<DeclId>>, AllocError> {
+    let mut link = own_links(alloc)?;
     while link.len() < count {
         link.push(None)?;
     }
