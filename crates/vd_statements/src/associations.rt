@@ -8,6 +8,7 @@ ghost use Rattle.vd_forest.specs.Store.{Extends};
 
 use crate::lists::Lists;
 use crate::places::Places;
+use crate::words::{parts_at, plain};
 use std::alloc::{AllocError, Global};
 use vd_bytes::Place;
 use vd_declarations::{DeclId, Declaration};
@@ -22,16 +23,6 @@ use vd_tours::{Entry, Touring};
 pub struct Associations<'a> {
     pub declarations: &'a [Declaration],
     pub places: Places,
-}
-
-/// A node that names nothing and has no type.
-fn plain(form: Form) -> Resolved {
-    Resolved {
-        form,
-        declaration: None,
-        mark: None,
-        position: 0,
-    }
 }
 
 /// The parts of a node, where it is an association by name.
@@ -63,17 +54,6 @@ fn behind(out: &Store<Resolved>, number: u32) -> u32
     if number == 0 { 0 } else { out.after(number) }
 }
 
-/// The parts of the first tree.
-fn inside(out: &Store<Resolved>, number: u32) -> u32
-    requires { number ≤ length out.now }
-    ensures { result ≤ length out.now }
-{
-    match out.head(number) {
-        Some(head) => head.parts,
-        None => 0,
-    }
-}
-
 /// The last of some trees.
 fn last_of(out: &Store<Resolved>, number: u32) -> u32
     requires { number ≤ length out.now }
@@ -94,10 +74,10 @@ fn converted_formal(out: &Store<Resolved>, tree: u32) -> Option<DeclId>
     requires { tree ≤ length out.now }
 {
     let choices = association(out, tree)?;
-    let formal = inside(out, choices);
-    let list = last_of(out, inside(out, formal));
-    let name = inside(out, list);
-    declaration_of(&out.cursor(inside(out, name)))
+    let formal = parts_at(out, choices);
+    let list = last_of(out, parts_at(out, formal));
+    let name = parts_at(out, list);
+    declaration_of(&out.cursor(parts_at(out, name)))
 }
 
 /// Whether one of some trees is an association by name.

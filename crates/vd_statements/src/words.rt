@@ -21,7 +21,7 @@ pub struct Words<'a> {
 }
 
 /// A node that names nothing and has no type.
-fn plain(form: Form) -> Resolved
+pub(crate) fn plain(form: Form) -> Resolved
     ensures { result ≡ plain form }
 {
     Resolved {
@@ -73,7 +73,7 @@ fn list_at(out: &Store<Resolved>, count: u32, parts: u32) -> u32
 }
 
 /// The parts of the first tree.
-fn parts_at(out: &Store<Resolved>, number: u32) -> u32
+pub(crate) fn parts_at(out: &Store<Resolved>, number: u32) -> u32
     requires { number ≤ length out.now }
     ensures within { result ≤ length out.now }
     ensures parts { at out.now result ≡ parts_of (at out.now number) }
