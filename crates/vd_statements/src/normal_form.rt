@@ -6,12 +6,12 @@ ghost use Rattle.vd_rewriting.specs.Inheriting.{rewritten_under};
 ghost use Rattle.vd_statements.specs.Words.{outside, words};
 
 use crate::associations::Associations;
-use crate::declarations::all_copied;
 use crate::slots::Slot;
 use crate::words::Words;
 use std::alloc::{AllocError, Global};
 use vd_declarations::Declaration;
 use vd_forest::{Cursor, Store};
+use vd_noting::all_copied;
 use vd_resolved::{Resolved, Tree};
 use vd_rewriting::rewrite_under;
 use vd_tours::tour;

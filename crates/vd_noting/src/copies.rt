@@ -15,7 +15,7 @@ fn copied_numbers(alloc: Global, declarations: &Declarations) -> Result<Declarat
 }
 
 /// The same declaration once more.
-fn copied(alloc: Global, declaration: &Declaration) -> Result<Declaration, AllocError>
+pub fn copied(alloc: Global, declaration: &Declaration) -> Result<Declaration, AllocError>
     ensures { IfOk result (λ copy. copy ≡ declaration.now) }
 {
     Ok(Declaration {
