@@ -6,6 +6,7 @@
 pub mod copies;
 pub mod implicit;
 pub mod noting;
+pub mod selectors;
 
 pub use copies::{all_copied, copied};
 pub use noting::{Noting, note};

@@ -6,13 +6,14 @@ ghost use Rattle.vd_noting.specs.Notes.{BeginsWith, without_notes};
 
 use crate::copies::{all_copied, copied};
 use crate::implicit::{formal_of, implicit_signal};
+use crate::selectors::{has_choices, has_variable, selector_variable};
 use std::alloc::{AllocError, Global};
 use std::mem;
 use vd_bytes::Text;
 use vd_declarations::{Declaration, Made};
 use vd_forest::{Opened, Store};
 use vd_forms::Form;
-use vd_notes::{Note, Noted, first_number};
+use vd_notes::{CaseForm, Note, Noted, first_number};
 use vd_resolved::{Resolved, Tree};
 use vd_tours::{Entry, Touring, tour};
 
@@ -40,7 +41,8 @@ struct Here {
 #[derive(Drop)]
 struct Walk<'a> {
     declarations: &'a [Declaration],
-    /// What is known of brackets and of the elements of port maps, in the order of the text, and how much of it is given out.
+    /// What is known of brackets, of the elements of port maps, of statements with choices and of choices, in the order of the text, and how much of it
+    /// is given out.
     known: &'a [Note],
     given: usize,
     /// What is declared behind them.
@@ -70,11 +72,11 @@ fn is_alternative(here: &Here, form: Form) -> bool {
     }
 }
 
-/// Whether a tree is among those of which something is known: brackets, and the elements of port maps.
+/// Whether a tree is among those of which something is known: brackets, the elements of port maps, statements with choices, and choices.
 fn is_known(here: &Here, form: Form) -> bool {
     match form {
         Form::Arguments => true,
-        _ => matches!(here.round, Some(Form::PortMap)),
+        _ => has_choices(form) || matches!(here.round, Some(Form::PortMap | Form::Choices)),
     }
 }
 
@@ -130,11 +132,52 @@ impl<'a> Walk<'a> {
         }
     }
 
+    /// A variable for the selector of a statement with choices.
+    fn variable(
+        &mut self,
+        alloc: Global,
+        form: CaseForm,
+        node: &Opened<'_, Resolved>,
+    ) -> Result<u32, AllocError> {
+        let number = self.next_number()?;
+        let declaration = selector_variable(alloc, form, node)?;
+        self.made.push(declaration)?;
+        Ok(number)
+    }
+
+    /// The note of a statement with choices, with the number of its variable, where it has one.
+    fn selecting(
+        &mut self,
+        alloc: Global,
+        note: Note,
+        node: &Opened<'_, Resolved>,
+    ) -> Result<Note, AllocError> {
+        match note {
+            Note::Selecting {
+                form,
+                left,
+                right,
+                down,
+                ..
+            } if has_variable(form) => {
+                let variable = self.variable(alloc, form, node)?;
+                Ok(Note::Selecting {
+                    form,
+                    variable,
+                    left,
+                    right,
+                    down,
+                })
+            }
+            _ => Ok(note),
+        }
+    }
+
     /// The note of a tree of which something is known.
     fn known_of(&mut self, alloc: Global, node: &Opened<'_, Resolved>) -> Result<Note, AllocError> {
         match self.next_known() {
             Note::Implicit { .. } => self.implicit(alloc, node),
-            note => Ok(note),
+            note => self.selecting(alloc, note, node),
         }
     }
 
@@ -210,9 +253,11 @@ impl<'a, 'b> Touring<'a, Resolved, Noted> for Walk<'b> {
     }
 }
 
-/// The notes of a design: at each second or later alternative of a generate, the declaration of its label; at brackets, what is known of them; at the
-/// elements of port maps that are by name, the signal that stands for the actual, where one does. These declarations stand behind those of the design, in
-/// the order of the text. What is known are notes in the order of the text, one for brackets each and one for each element of a port map.
+/// The notes of a design: at each second or later alternative of a generate, the declaration of its label; at brackets and choices, what is known of them;
+/// at the elements of port maps that are by name, the signal that stands for the actual, where one does; at statements with choices, how they are written,
+/// and the variable that has the selector's value, where one does. These declarations stand behind those of the design, in the order of the text. What is
+/// known are notes in the order of the text, one for brackets each, one for each element of a port map, one for each statement with choices, and one for
+/// each choice in a list.
 #[tactic(auto, using(crate::proofs::NotingLemmas::noting))]
 pub fn note(alloc: Global, tree: &Tree, known: &[Note]) -> Result<Noting, AllocError>
     ensures within { IfOk result (λ made. made.units ≤ length made.trees) }

@@ -1,6 +1,2 @@
-pub mod ConditionLemmas
-pub mod ConditionalLemmas
-pub mod GenerateLemmas
-pub mod SelectionLemmas
 pub mod TourLemmas
 pub mod WordLemmas

@@ -1,10 +1,3 @@
-pub mod Assignments
-pub mod Conditionals
-pub mod Conditions
-pub mod Generates
 pub mod Lists
-pub mod Operators
-pub mod Orders
-pub mod Selections
 pub mod Slots
 pub mod Words

@@ -21,7 +21,7 @@ pub struct Words<'a> {
 }
 
 /// A node that names nothing and has no type.
-pub(crate) fn plain(form: Form) -> Resolved
+pub fn plain(form: Form) -> Resolved
     ensures { result ≡ plain form }
 {
     Resolved {

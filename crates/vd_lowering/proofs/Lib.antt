@@ -1,0 +1,4 @@
+pub mod ConditionLemmas
+pub mod ConditionalLemmas
+pub mod GenerateLemmas
+pub mod SelectionLemmas

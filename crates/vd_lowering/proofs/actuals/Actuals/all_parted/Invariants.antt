@@ -1,0 +1,14 @@
+use Rattle.std.proofs.Common.{◌≤◌, length}
+use Rattle.vd_forest.specs.Store.{Extends}
+use Rattle.vd_lowering.proofs.actuals.Actuals.all_parted.Given as goal
+
+abbrev pub invariant-loop-left : goal.invariant-loop-left
+invariant-loop-left l = record {
+  left_in : l.left ≤ length l.out;
+  back_in : l.back ≤ length l.out;
+  assignments_in : l.assignments ≤ length l.out;
+  extends : Extends l.fn.out l.out;
+}
+
+abbrev pub decreases-loop-left : goal.decreases-loop-left
+decreases-loop-left l = l.left

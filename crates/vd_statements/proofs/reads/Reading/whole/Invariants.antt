@@ -1,5 +1,0 @@
-use Rattle.vd_forest.specs.Forest.{tree_count}
-use Rattle.vd_statements.proofs.reads.Reading.whole.Given as goal
-
-abbrev pub decreases-loop-piece : goal.decreases-loop-piece
-decreases-loop-piece l = tree_count l.left
