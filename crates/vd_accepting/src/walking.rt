@@ -4,26 +4,23 @@ ghost use Rattle.std.specs.Prelude.{◌≡◌, ◌++◌, ◌∷◌, IfOk, List, 
 ghost use Rattle.vd_bytes.specs.declared.answers.Refused.{Refused};
 ghost use Rattle.vd_walks.specs.Positions.{Along, Down, IsAtEnd, IsAtPlace, Position, passed, tree_of};
 ghost use Rattle.vd_known_designs.specs.Designs.{IsReady, Knows};
-ghost use Rattle.vd_known_indications.specs.Places.{IsRemembering};
 ghost use Rattle.vd_port_modes.specs.Source.{design_in};
 ghost use Rattle.vd_value_rules.specs.Groups.{firsts_by, firsts_of};
-ghost use Rattle.vd_value_rules.specs.Declaring.{declaring, unit_declared_by, units_declared as all_declared};
 ghost use Rattle.vd_value_rules.specs.Designs.{Design};
 ghost use Rattle.vd_value_rules.specs.Knowledge.{Known};
-ghost use Rattle.vd_value_rules.specs.Standings.{State, known_down, state_down};
+ghost use Rattle.vd_value_rules.specs.Standings.{State, state_down};
 ghost use Rattle.vd_accepting.specs.Levels.{IsLevel};
-ghost use Rattle.vd_accepting.specs.Walking.{Follows, KnowsEnd, asked, broken_here, declared_behind, declared_inside, seen_outside};
+ghost use Rattle.vd_accepting.specs.Walking.{Follows, asked, broken_here};
 
 use crate::groups::refusals;
-use crate::insides::{are_parts_copied, known_in_parts, label_of_parts};
+use crate::insides::{are_parts_copied, label_of_parts};
 use crate::levels::{Level, either, go_on, standing, surroundings};
 use std::alloc::{AllocError, Global};
 use std::mem;
 use vd_contexts::standings_of;
-use vd_forest::{Cursor, Opened};
-use vd_forms::Form;
+use vd_forest::Opened;
 use vd_known_designs::KnownDesign;
-use vd_known_units::{unit_declared, units_declared};
+use vd_known_units::{go_inside, go_outside};
 use vd_port_facts::PortFacts;
 use vd_port_modes::Interfaces;
 use vd_resolved::{Resolved, Tree};
@@ -70,75 +67,6 @@ fn first_part(
             are_parts_copied(interfaces, &node.form, &node.parts),
         ),
     })
-}
-
-/// Remembers what is known.
-fn remember(design: &mut KnownDesign<'_, '_>) -> Result<(), AllocError>
-    ensures knows { (d : Design) (k : Known) (ks : List Known) → Knows d design.old (k ∷ ks) → OnOk result (Knows d design.new (k ∷ k ∷ ks)) }
-{
-    design.table.remember()
-}
-
-/// Goes back to what is remembered.
-fn go_back(design: &mut KnownDesign<'_, '_>)
-    ensures knows { (d : Design) (now k : Known) (ks : List Known) → Knows d design.old (now ∷ k ∷ ks) → Knows d design.new (k ∷ ks) }
-{
-    design.table.back();
-}
-
-/// Comes to what is known in the parts of a node, and remembers what was known in front of it.
-fn go_inside(
-    design: &mut KnownDesign<'_, '_>,
-    alloc: Global,
-    form: &Resolved,
-    parts: &Cursor<'_, Resolved>,
-) -> Result<(), AllocError>
-    requires ready { IsReady design.old }
-    ensures knows { (d : Design) (k : Known) (ks : List Known) → Knows d design.old (k ∷ ks)
-        → OnOk result (Knows d design.new (known_down form.now.form d form.now parts.now k ∷ k ∷ ks)) }
-{
-    remember(design)?;
-    known_in_parts(design, alloc, form, parts)
-}
-
-/// Comes from the end of the parts of a node to what they declare for the text behind it: what a function declares is seen from outside there.
-fn seen_from_outside<'a>(
-    design: &mut KnownDesign<'a, '_>,
-    interfaces: &Interfaces<'_>,
-    alloc: Global,
-    form: &Resolved,
-    parts: &Cursor<'a, Resolved>,
-) -> Result<(), AllocError>
-    requires end { KnowsEnd (design_in interfaces.now) design.old form.now parts.now }
-    ensures knows { (k : Known) (ks : List Known)
-        → Knows (design_in interfaces.now) design.old (declared_inside (design_in interfaces.now) form.now parts.now k ∷ k ∷ ks)
-        → OnOk result (Knows (design_in interfaces.now) design.new (seen_outside form.now.form (design_in interfaces.now) form.now parts.now k ∷ k ∷ ks)) }
-{
-    match form.form {
-        Form::FunctionBody => {
-            go_back(design);
-            remember(design)?;
-            units_declared(design, interfaces, alloc, parts)
-        }
-        _ => Ok(()),
-    }
-}
-
-/// Goes from the end of the parts of a node behind it.
-fn go_outside<'a>(
-    design: &mut KnownDesign<'a, '_>,
-    interfaces: &Interfaces<'_>,
-    alloc: Global,
-    form: &Resolved,
-    parts: &Cursor<'a, Resolved>,
-) -> Result<(), AllocError>
-    requires end { KnowsEnd (design_in interfaces.now) design.old form.now parts.now }
-    ensures knows { (k : Known) (ks : List Known)
-        → Knows (design_in interfaces.now) design.old (declared_inside (design_in interfaces.now) form.now parts.now k ∷ k ∷ ks)
-        → OnOk result (Knows (design_in interfaces.now) design.new (declared_behind (design_in interfaces.now) form.now parts.now k ∷ ks)) }
-{
-    seen_from_outside(design, interfaces, alloc, form, parts)?;
-    unit_declared(design, interfaces, alloc, form, parts)
 }
 
 impl<'a, 'i, 't> Following<'a, Resolved> for Walk<'a, 'i, 't> {

@@ -7,11 +7,11 @@ use Rattle.vd_bytes.specs.Trays.{content_of}
 use Rattle.vd_first_lex.specs.Lexings.{plain_of}
 use Rattle.vd_first_lower.specs.Conversions.{design_text, map_rows, IsConverted}
 use Rattle.vd_first_lower.proofs.Faithful.{faithful}
-use Rattle.vd_checking.proofs.CheckLemmas.{meets_zero, zero_meets}
+use Rattle.vd_modes.proofs.CheckLemmas.{meets_zero, zero_meets}
 use Rattle.vd_bytes.specs.declared.answers.Refused.{Refused}
-use Rattle.vd_checking.specs.Checks.{refusal_in, SaysCheck}
-use Rattle.vd_converting.proofs.ConversionLaws.{IsWritten, one_refused, zero_written}
-use Rattle.vd_converting.specs.Conversions.{IsRefused}
+use Rattle.vd_modes.specs.Checks.{refusal_in, SaysCheck}
+use Rattle.vd_modes.proofs.ConversionLaws.{IsWritten, one_refused, zero_written}
+use Rattle.vd_modes.specs.Conversions.{IsRefused}
 use Rattle.vd_design_files.specs.Laws.{HasOneAnswer}
 use Rattle.vd_program.specs.Dues.{Due}
 use Rattle.vd_program.specs.Outcomes.{contents_of, IsFilesOutcome}

@@ -4,8 +4,8 @@ use Rattle.std.proofs.lemmas.Bool.{cases_lt}
 use Rattle.std.specs.Prelude.{slice_index_or}
 use Rattle.vd_bytes.specs.declared.channels.Channel.{Channel}
 use Rattle.vd_bytes.specs.Trays.{Rose}
-use Rattle.vd_checking.proofs.CheckLemmas.{IsStatus, check_status}
-use Rattle.vd_converting.proofs.ConversionLaws.{conversion_status}
+use Rattle.vd_modes.proofs.CheckLemmas.{IsStatus, check_status}
+use Rattle.vd_modes.proofs.ConversionLaws.{conversion_status}
 use Rattle.vd_program.specs.Dues.{Due, refused_words, read_fault}
 use Rattle.vd_program.specs.Outcomes.{contents_of, IsFilesOutcome, IsOutcomeOfFiles, IsReadFault, IsOwnStatus, WritesFiles}
 use Rattle.vd_program.specs.Endings.{GotAll}

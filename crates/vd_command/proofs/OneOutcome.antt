@@ -1,8 +1,8 @@
 -- Words and files have one outcome.
 use Rattle.std.proofs.Common.{◌≡◌, ◌⊎◌, ℕ, List, sym, ap, ◌∙◌, subst, arith, inl, inr}
-use Rattle.vd_checking.proofs.CheckLemmas.{check_one}
-use Rattle.vd_converting.proofs.ConversionLaws as whole
-use Rattle.vd_converting.specs.Dues.{MayBeConverted}
+use Rattle.vd_modes.proofs.CheckLemmas.{check_one}
+use Rattle.vd_modes.proofs.ConversionLaws as whole
+use Rattle.vd_modes.specs.Dues.{MayBeConverted}
 use Rattle.vd_design_files.specs.Laws.{HasOneAnswer}
 use Rattle.vd_first_lex.specs.Lexings.{plain_of}
 use Rattle.vd_first_lower.specs.Conversions.{converted, IsConversion}

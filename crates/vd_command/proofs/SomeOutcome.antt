@@ -22,8 +22,8 @@ use Rattle.vd_first_accept.specs.Unknown.{first_unknown}
 use Rattle.vd_first_accept.proofs.UnknownFound.{names_known, names_unknown}
 use Rattle.vd_first_lower.specs.Conversions.{Answer, refused, beyond, converted, design_text, map_rows, IsConversion}
 use Rattle.vd_first_lower.specs.Steps.{HasOneConversion}
-use Rattle.vd_checking.proofs.CheckLemmas.{check_some}
-use Rattle.vd_converting.proofs.ConversionLaws.{conversion_some}
+use Rattle.vd_modes.proofs.CheckLemmas.{check_some}
+use Rattle.vd_modes.proofs.ConversionLaws.{conversion_some}
 use Rattle.vd_design_files.specs.Laws.{HasSomeAnswer}
 use Rattle.vd_program.specs.Dues.{Due, refused_words, limit_number, limit_passed}
 use Rattle.vd_program.specs.Outcomes.{contents_of, total_length, IsFilesOutcome}

@@ -16,12 +16,12 @@ use Rattle.vd_first_names.specs.Maps.{map_text_of}
 use Rattle.vd_first_lower.specs.Headline.{IsText, IsFaithful}
 use Rattle.vd_program.specs.Dues.{limit_number}
 use Rattle.vd_program.specs.Outcomes.{contents_of, total_length}
-use Rattle.vd_checking.specs.Checks.{MeetsRules, refusal_in}
+use Rattle.vd_modes.specs.Checks.{MeetsRules, refusal_in}
 use Rattle.vd_directives.specs.declared.selected.Line.{Line}
 use Rattle.vd_bytes.specs.declared.answers.Refused.{Refused}
-use Rattle.vd_converting.specs.Conversions.{AreConverted, IsRefused}
-use Rattle.vd_converting.specs.Dues.{console_of, conversion_line}
-use Rattle.vd_converting.specs.Texts.{IsIn93}
+use Rattle.vd_modes.specs.Conversions.{AreConverted, IsRefused}
+use Rattle.vd_modes.specs.Dues.{console_of, conversion_line}
+use Rattle.vd_modes.specs.Texts.{IsIn93}
 use Rattle.vd_command.specs.Words.{converting, checking, job_of, files_of}
 use Rattle.vd_command.specs.Outcomes.{IsNotFirst}
 

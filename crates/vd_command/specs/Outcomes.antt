@@ -4,10 +4,10 @@ use Rattle.vd_trees.specs.declared.rows.Row.{Row}
 use Rattle.vd_first_lex.specs.Lexings.{plain_of}
 use Rattle.vd_first_names.specs.Maps.{map_text_of}
 use Rattle.vd_first_lower.specs.Conversions.{converted, IsConversion}
-use Rattle.vd_converting.specs.Dues.{conversion_line, SaysConversion as SaysWholeConversion, MayBeConverted}
+use Rattle.vd_modes.specs.Dues.{conversion_line, SaysConversion as SaysWholeConversion, MayBeConverted}
 use Rattle.vd_program.specs.Dues.{Due, refused_words}
 use Rattle.vd_program.specs.Outcomes.{contents_of, IsFilesOutcome}
-use Rattle.vd_checking.specs.Checks.{SaysCheck}
+use Rattle.vd_modes.specs.Checks.{SaysCheck}
 use Rattle.vd_command.specs.Words.{Job, refusing, converting, checking, job_of, files_of}
 
 -- ---- the first language: one file, whose text is small enough for all that is proved of its conversion

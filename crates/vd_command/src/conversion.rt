@@ -8,10 +8,10 @@ ghost use Rattle.vd_command.specs.Outcomes.{conversion, IsFirst, IsNotFirst, Say
 use std::alloc::{AllocError, Global};
 use std::marker::Model;
 use vd_bytes::{Bytes, Text};
-use vd_converting::{Converting, conversion_line};
 use vd_first_lex::plain;
 use vd_first_lower::{ConvertEnd, Converted, convert};
 use vd_first_names::map_text;
+use vd_modes::{Converting, conversion_line};
 use vd_program::{Contents, DueBytes, Task};
 
 /// Converts files, under a tool type. What is proved of the first language alone is promised of its texts by being asked first.

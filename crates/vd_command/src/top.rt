@@ -16,7 +16,7 @@ use crate::conversion::Conversion;
 use crate::words::action_of;
 use std::alloc::Global;
 use vd_bytes::Tray;
-use vd_checking::Checking;
+use vd_modes::Checking;
 use vd_program::{MEMORY, perform, refuse_words};
 
 /// Converts the files that the words name, or checks them, and answers a status: 0 done, 1 a rule is broken, 2 the words aren't taken,

@@ -3,3 +3,4 @@ mod WalkLemmas
 mod KindLemmas
 mod CopyLemmas
 mod InstanceLemmas
+pub mod PassingLemmas

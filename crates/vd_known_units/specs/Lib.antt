@@ -2,3 +2,4 @@ pub mod Kinds
 pub mod Walking
 pub mod Copies
 pub mod Units
+pub mod Passing

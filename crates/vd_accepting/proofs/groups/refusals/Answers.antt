@@ -3,7 +3,7 @@ use Rattle.vd_port_modes.specs.Source.{design_in}
 use Rattle.vd_value_rules.specs.Groups.{aggregates, bounds, choices, instances, joined_firsts, static_expressions, types}
 use Rattle.vd_value_rules.specs.declared.firsts.Firsts.{Firsts}
 use Rattle.vd_accepting.proofs.GroupLemmas.{six_together}
-use Rattle.vd_accepting.proofs.WalkLemmas.{ready_kept}
+use Rattle.vd_known_units.proofs.PassingLemmas.{ready_kept}
 use Rattle.vd_accepting.proofs.groups.refusals.Goals as goal
 
 pub aggregate_refusals-requires : goal.aggregate_refusals-requires

@@ -1,6 +1,6 @@
 use Rattle.std.proofs.Common.{◌≡◌, subst}
 use Rattle.std.proofs.lemmas.Result.{IfOk-weaker}
-use Rattle.vd_converting.specs.Dues.{SaysConversion as SaysWholeConversion}
+use Rattle.vd_modes.specs.Dues.{SaysConversion as SaysWholeConversion}
 use Rattle.vd_words.specs.Words.{texts_of}
 use Rattle.vd_command.specs.Outcomes.{IsNotFirst, SaysConversion}
 use Rattle.vd_command.proofs.conversion.ConversionTask.form.Goals as goal

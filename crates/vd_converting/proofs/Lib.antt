@@ -1,2 +1,0 @@
-pub mod ConversionLaws
-pub mod SamenessLemmas

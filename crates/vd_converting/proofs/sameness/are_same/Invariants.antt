@@ -1,5 +1,0 @@
-use Rattle.vd_converting.specs.Sameness.{work}
-use Rattle.vd_converting.proofs.sameness.are_same.Given as goal
-
-abbrev pub decreases-loop-pair : goal.decreases-loop-pair
-decreases-loop-pair l = work l.round.items

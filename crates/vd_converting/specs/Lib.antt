@@ -1,4 +1,0 @@
-pub mod Texts
-pub mod Conversions
-pub mod Dues
-pub mod Sameness

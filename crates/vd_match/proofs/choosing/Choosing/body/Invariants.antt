@@ -1,0 +1,13 @@
+use Rattle.std.proofs.Common.{◌≤◌, length}
+use Rattle.vd_forest.specs.Store.{Extends}
+use Rattle.vd_match.proofs.choosing.Choosing.body.Given as goal
+
+abbrev pub invariant-loop-left : goal.invariant-loop-left
+invariant-loop-left l = record {
+  part_in : l.part ≤ length l.out;
+  front_in : l.front ≤ length l.out;
+  extends : Extends l.fn.out l.out;
+}
+
+abbrev pub decreases-loop-left : goal.decreases-loop-left
+decreases-loop-left l = l.left

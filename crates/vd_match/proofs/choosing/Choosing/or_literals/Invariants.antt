@@ -1,0 +1,12 @@
+use Rattle.std.proofs.Common.{◌≤◌, length}
+use Rattle.vd_forest.specs.Store.{Extends}
+use Rattle.vd_match.proofs.choosing.Choosing.or_literals.Given as goal
+
+abbrev pub invariant-loop-left : goal.invariant-loop-left
+invariant-loop-left l = record {
+  made_in : l.made ≤ length l.out;
+  extends : Extends l.fn.out l.out;
+}
+
+abbrev pub decreases-loop-left : goal.decreases-loop-left
+decreases-loop-left l = l.left

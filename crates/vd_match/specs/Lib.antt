@@ -1,0 +1,4 @@
+pub mod Operations
+pub mod Packages
+pub mod Support
+pub mod Writings

@@ -1,0 +1,4 @@
+pub mod CheckLemmas
+pub mod LineLemmas
+pub mod ConversionLaws
+pub mod SamenessLemmas

@@ -1,0 +1,5 @@
+pub mod Checks
+pub mod Texts
+pub mod Conversions
+pub mod Dues
+pub mod Sameness
